@@ -1,0 +1,14 @@
+pub mod Compare
+pub mod Cases
+pub mod Pack
+pub mod Rounding
+pub mod WholeRoot
+pub mod RootDigit
+pub mod Aligned
+pub mod RootLaw
+pub mod Narrowing
+pub mod Clamps
+pub mod Powers
+pub mod Magnitude
+pub mod Grid
+pub mod Kept

@@ -1,0 +1,19 @@
+use mathlib.Core.Path.{_≡_, sym, ap, _∙_}
+use lib.Ieee.{binary64}
+use borrow.Author.Needs.{needs}
+use Rattle.float.proofs.Cases.{nan-is}
+use Rattle.float.proofs.RootLaw.{nan-pattern, no-nan-pattern}
+use Rattle.float.proofs.bits.from_bits_f64.Statement.{statement}
+use Rattle.float.proofs.bits.from_bits_f64.Tie as tie
+
+returns : tie.Need-returns
+returns c = nan-is binary64 ∙ sym (nan-pattern binary64 (c .before .args .bits) (c .if1 .taken))
+
+float-from-bits-result : tie.Need-float-from-bits-result
+float-from-bits-result c = no-nan-pattern binary64 (c .before .args .bits) (c .if1 .left)
+
+returns-2 : tie.Need-returns-2
+returns-2 c = search needs
+
+pub from-bits-f64-spec : {M : Type 1} → statement M
+from-bits-f64-spec = tie.close (tie.spec returns float-from-bits-result returns-2)

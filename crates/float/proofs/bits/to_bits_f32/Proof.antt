@@ -1,0 +1,20 @@
+use mathlib.Core.Path.{_≡_, sym, ap, _∙_}
+use lib.Ieee.{binary32, toBits}
+use lib.Ieee.Compare.{differs-from-itself}
+use borrow.Author.Needs.{needs}
+use Rattle.float.proofs.Cases.{is, not-nan}
+use Rattle.float.proofs.bits.to_bits_f32.Statement.{statement}
+use Rattle.float.proofs.bits.to_bits_f32.Tie as tie
+
+returns : tie.Need-returns
+unfolding toBits
+returns c = ap (toBits binary32) (sym (differs-from-itself (c .before .args .x) (is _ (c .if1 .taken))))
+
+float-to-bits-result : tie.Need-float-to-bits-result
+float-to-bits-result c = not-nan (c .before .args .x) (c .if1 .left)
+
+returns-2 : tie.Need-returns-2
+returns-2 c = search needs
+
+pub to-bits-f32-spec : {M : Type 1} → statement M
+to-bits-f32-spec = tie.close (tie.spec returns float-to-bits-result returns-2)

@@ -1,0 +1,6 @@
+pub mod Nearest
+pub mod Root
+pub mod Narrow
+pub mod Literal
+pub mod Clamp
+pub mod Inner

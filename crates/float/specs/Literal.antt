@@ -1,0 +1,9 @@
+-- A number as the Rust's source writes it, such as 0.5 or 0.01. Definitions only.
+use Prim.Native.Nat.{ℕ}
+use mathlib.Core.Bool.{false}
+use lib.Ieee.{Float, Format, round}
+
+-- a / b, rounded to the format
+unfoldable pub literal : Format → ℕ → ℕ → Float
+unfolding round
+literal f a b = round f false a b
