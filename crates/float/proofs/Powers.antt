@@ -2,13 +2,19 @@
 use mathlib.Core.Path.{_≡_, refl, sym, ap, _∙_, subst}
 use mathlib.Core.Logic.{_⊎_, inl, inr}
 use Prim.Native.Nat.{ℕ, zero, suc, _+_, _-_, _*_, _^_, _≤_, _<_}
-use native.Mathlib.Nat.{le-trans, le-of-eq, lt-irrefl, lt-of-lt-of-le, lt-of-le-of-lt, le-antisymm, eq-or-lt-of-le, mul-comm, mul-assoc, mul-left-comm, mul-mul-mul-comm, mul-pos, mul-le-mul-right, mul-lt-mul-of-pos-right, le-of-mul-le-mul-right, eq-of-mul-eq-mul-right, pow-zero, pow-suc, pow-le-pow-left, pow-lt-pow-left, one-le-pow}
+use native.Mathlib.Nat.{le-trans, le-of-eq, lt-irrefl, lt-of-lt-of-le, lt-of-le-of-lt, le-antisymm, eq-or-lt-of-le, mul-comm, mul-assoc, mul-left-comm, mul-mul-mul-comm, mul-pos, mul-le-mul-right, mul-lt-mul-of-pos-right, le-of-mul-le-mul-right, eq-of-mul-eq-mul-right, one-mul, pow-zero, pow-suc, pow-le-pow-left, pow-lt-pow-left, one-le-pow}
 use native.Mathlib.Omega.{arith}
 use mathlib.Core.Bool.{Bool, true, false, not}
 use lib.Dec.{T, ltb, ltb→lt, nltb→le}
 
 pub cancel : {a b : ℕ} (p : ℕ) → 0 < p → a * p ≡ b * p → a ≡ b
 cancel {a} {b} p P e = eq-of-mul-eq-mul-right p P a b e
+
+pub power-one : (a : ℕ) → a ^ 1 ≡ a
+power-one a = pow-suc a 0 ∙ ap (λ (x : ℕ). x * a) (pow-zero a) ∙ one-mul a
+
+pub square : (a : ℕ) → a ^ 2 ≡ a * a
+square a = pow-suc a 1 ∙ ap (λ (x : ℕ). x * a) (power-one a)
 
 pub mul-pow : (a b j : ℕ) → (a * b) ^ j ≡ a ^ j * b ^ j
 mul-pow a b zero = pow-zero (a * b) ∙ sym (ap (λ (x : ℕ). x * b ^ 0) (pow-zero a) ∙ ap (λ (x : ℕ). 1 * x) (pow-zero b))
