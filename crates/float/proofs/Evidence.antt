@@ -58,10 +58,10 @@ module _ (f : Format) (s : Bool) (j n d : ℕ) where
       go u v =
           let Y = u .m * 2 ^ u .i in
           let Z = v .m * 2 ^ v .i in
-          elim (split-order Y Z)
-          [ inl l ↦ absurd (not-two y z yz zy (lt→smaller f y z Y Z (u .mag) (v .mag) l))
-          | inr w ↦ elim w
-            [ inl l ↦ absurd (not-two z y zy yz (lt→smaller f z y Z Y (v .mag) (u .mag) l))
-            | inr e ↦ one-value f s y z Z (a .held) (b .held) (a .sign) (b .sign) (u .mag ∙ ap (λ (x : ℕ). x * under y) e) (v .mag)
+          elim (split-order Y Z) [
+            | inl l ↦ absurd (not-two y z yz zy (lt→smaller f y z Y Z (u .mag) (v .mag) l))
+            | inr w ↦ elim w [
+              | inl l ↦ absurd (not-two z y zy yz (lt→smaller f z y Z Y (v .mag) (u .mag) l))
+              | inr e ↦ one-value f s y z Z (a .held) (b .held) (a .sign) (b .sign) (u .mag ∙ ap (λ (x : ℕ). x * under y) e) (v .mag)
             ]
           ]

@@ -15,3 +15,6 @@ pub mod Kept
 pub mod RoundKept
 pub mod RootKept
 pub mod Evidence
+pub mod Outcome
+pub mod OneOutcome
+pub mod Examples

@@ -17,33 +17,33 @@ pub fn abs_f32(x: f32) -> f32
     x
 }
 
-// `x.clamp(0.0, 1.0)`: a mix.
-pub fn clamp_unit_f32(x: f32) -> f32
-    ensures { λ r. ⌜ r ≡ unitOf binary32 x ⌝ }
+// `mix.clamp(0.0, 1.0)`
+pub fn clamp_unit_f32(mix: f32) -> f32
+    ensures { λ r. ⌜ r ≡ unitOf binary32 mix ⌝ }
 {
-    if x < 0.0 {
+    if mix < 0.0 {
         return 0.0;
     }
-    if x > 1.0 {
+    if mix > 1.0 {
         return 1.0;
     }
-    x
+    mix
 }
 
-// `x.clamp(0.0, 1.0)`: a resonance.
-pub fn clamp_unit_f64(x: f64) -> f64
-    ensures { λ r. ⌜ r ≡ unitOf binary64 x ⌝ }
+// `resonance.clamp(0.0, 1.0)`
+pub fn clamp_unit_f64(resonance: f64) -> f64
+    ensures { λ r. ⌜ r ≡ unitOf binary64 resonance ⌝ }
 {
-    if x < 0.0 {
+    if resonance < 0.0 {
         return 0.0;
     }
-    if x > 1.0 {
+    if resonance > 1.0 {
         return 1.0;
     }
-    x
+    resonance
 }
 
-// `x.clamp(-1.0, 1.0)`: a panning, and a hard clip.
+// `x.clamp(-1.0, 1.0)`: of a panning, and a hard clip
 pub fn clamp_both_f32(x: f32) -> f32
     ensures { λ r. ⌜ r ≡ bothOf binary32 x ⌝ }
 {
@@ -56,12 +56,12 @@ pub fn clamp_both_f32(x: f32) -> f32
     x
 }
 
-// `x.max(0.01)`: a q.
-pub fn at_least_hundredth_f64(x: f64) -> f64
-    ensures { λ r. ⌜ r ≡ hundredthOf x ⌝ }
+// `q.max(0.01)`
+pub fn at_least_hundredth_f64(q: f64) -> f64
+    ensures { λ r. ⌜ r ≡ hundredthOf q ⌝ }
 {
-    if x > 0.01 {
-        return x;
+    if q > 0.01 {
+        return q;
     }
     0.01
 }

@@ -8,11 +8,11 @@ use Rattle.float.proofs.clamp.at_least_hundredth_f64.Tie as tie
 
 returns : tie.Need-returns
 unfolding hundredthOf literal round ofBits
-returns c = sym (ap (λ (b : Bool). cond b (c .before .args .x) (literal binary64 1 100)) (c .if1 .taken))
+returns c = sym (ap (λ (b : Bool). cond b (c .before .args .q) (literal binary64 1 100)) (c .if1 .taken))
 
 returns-2 : tie.Need-returns-2
 unfolding hundredthOf literal round ofBits
-returns-2 c = sym (ap (λ (b : Bool). cond b (c .before .args .x) (literal binary64 1 100)) (c .if1 .left))
+returns-2 c = sym (ap (λ (b : Bool). cond b (c .before .args .q) (literal binary64 1 100)) (c .if1 .left))
 
 pub at-least-hundredth-f64-spec : {M : Type 1} → statement M
 at-least-hundredth-f64-spec = tie.close (tie.spec returns returns-2)

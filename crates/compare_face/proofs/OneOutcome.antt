@@ -1,0 +1,35 @@
+-- Each exported function's promise admits one outcome. Assumes nothing.
+use mathlib.Core.Path.{sym, _∙_}
+use Rattle.float.proofs.Outcome.{Single}
+use Rattle.compare_face.proofs.sedhavil_sqrt_f32 as sqrt-f32
+use Rattle.compare_face.proofs.sedhavil_sqrt_f64 as sqrt-f64
+use Rattle.compare_face.proofs.sedhavil_as_f32 as as-f32
+use Rattle.compare_face.proofs.sedhavil_abs_f32 as abs-f32
+use Rattle.compare_face.proofs.sedhavil_clamp_unit_f32 as clamp-unit-f32
+use Rattle.compare_face.proofs.sedhavil_clamp_unit_f64 as clamp-unit-f64
+use Rattle.compare_face.proofs.sedhavil_clamp_both_f32 as clamp-both-f32
+use Rattle.compare_face.proofs.sedhavil_at_least_hundredth_f64 as at-least-hundredth-f64
+
+pub sqrt-f32-single : Single sqrt-f32.Reads.Post
+sqrt-f32-single κs a r r' s s' p q = p ∙ sym q
+
+pub sqrt-f64-single : Single sqrt-f64.Reads.Post
+sqrt-f64-single κs a r r' s s' p q = p ∙ sym q
+
+pub as-f32-single : Single as-f32.Reads.Post
+as-f32-single κs a r r' s s' p q = p ∙ sym q
+
+pub abs-f32-single : Single abs-f32.Reads.Post
+abs-f32-single κs a r r' s s' p q = p ∙ sym q
+
+pub clamp-unit-f32-single : Single clamp-unit-f32.Reads.Post
+clamp-unit-f32-single κs a r r' s s' p q = p ∙ sym q
+
+pub clamp-unit-f64-single : Single clamp-unit-f64.Reads.Post
+clamp-unit-f64-single κs a r r' s s' p q = p ∙ sym q
+
+pub clamp-both-f32-single : Single clamp-both-f32.Reads.Post
+clamp-both-f32-single κs a r r' s s' p q = p ∙ sym q
+
+pub at-least-hundredth-f64-single : Single at-least-hundredth-f64.Reads.Post
+at-least-hundredth-f64-single κs a r r' s s' p q = p ∙ sym q

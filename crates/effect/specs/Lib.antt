@@ -1,6 +1,0 @@
-pub mod VolumeControl
-pub mod PanningControl
-pub mod Distortion
-pub mod Integrators
-pub mod Filter
-pub mod EqFilter

@@ -1,8 +1,0 @@
-// kira's effects that hold no line, one module a kind: each takes one frame, its settings and what
-// it remembers, and gives the frame that comes out.
-pub mod volume_control;
-pub mod panning_control;
-pub mod distortion;
-pub mod integrators;
-pub mod filter;
-pub mod eq_filter;

@@ -1,0 +1,43 @@
+-- Each public function's promise admits one outcome. Assumes nothing.
+use mathlib.Core.Path.{sym, _∙_}
+use Rattle.float.proofs.Outcome.{Single}
+use Rattle.float.proofs.sqrt as sqrt
+use Rattle.float.proofs.narrow as narrow
+use Rattle.float.proofs.bits as bits
+use Rattle.float.proofs.clamp as clamp
+
+pub sqrt-f32-single : Single sqrt.sqrt_f32.Reads.Post
+sqrt-f32-single κs a r r' s s' p q = p ∙ sym q
+
+pub sqrt-f64-single : Single sqrt.sqrt_f64.Reads.Post
+sqrt-f64-single κs a r r' s s' p q = p ∙ sym q
+
+pub as-f32-single : Single narrow.as_f32.Reads.Post
+as-f32-single κs a r r' s s' p q = p ∙ sym q
+
+pub to-bits-f32-single : Single bits.to_bits_f32.Reads.Post
+to-bits-f32-single κs a r r' s s' p q = p ∙ sym q
+
+pub to-bits-f64-single : Single bits.to_bits_f64.Reads.Post
+to-bits-f64-single κs a r r' s s' p q = p ∙ sym q
+
+pub from-bits-f32-single : Single bits.from_bits_f32.Reads.Post
+from-bits-f32-single κs a r r' s s' p q = p ∙ sym q
+
+pub from-bits-f64-single : Single bits.from_bits_f64.Reads.Post
+from-bits-f64-single κs a r r' s s' p q = p ∙ sym q
+
+pub abs-f32-single : Single clamp.abs_f32.Reads.Post
+abs-f32-single κs a r r' s s' p q = p ∙ sym q
+
+pub clamp-unit-f32-single : Single clamp.clamp_unit_f32.Reads.Post
+clamp-unit-f32-single κs a r r' s s' p q = p ∙ sym q
+
+pub clamp-unit-f64-single : Single clamp.clamp_unit_f64.Reads.Post
+clamp-unit-f64-single κs a r r' s s' p q = p ∙ sym q
+
+pub clamp-both-f32-single : Single clamp.clamp_both_f32.Reads.Post
+clamp-both-f32-single κs a r r' s s' p q = p ∙ sym q
+
+pub at-least-hundredth-f64-single : Single clamp.at_least_hundredth_f64.Reads.Post
+at-least-hundredth-f64-single κs a r r' s s' p q = p ∙ sym q

@@ -1,0 +1,3 @@
+pub mod Panning
+pub mod OneOutcome
+pub mod Examples
