@@ -50,7 +50,7 @@ below-inf f n h = join ((size n - prec f) * hid f) (n / 2 ^ (size n - prec f)) (
     room binary32 z l = omega arith
     room binary64 z l = omega arith
 
-finite-bits : (f : Format) (m : ℕ) (e : ℤ) → T (fits f (fin false m e)) → toBits f (fin false m e) < ones f * hid f
+pub finite-bits : (f : Format) (m : ℕ) (e : ℤ) → T (fits f (fin false m e)) → toBits f (fin false m e) < ones f * hid f
 unfolding toBits fits
 finite-bits f zero e t = below-inf f (0 * up e * 2 ^ low f / down e) (div-lt-iff-lt-mul (down-pos e) .1 (lt-of-lt-of-le' (ap (λ (x : ℕ). x * 2 ^ low f) (zero-mul (up e)) ∙ zero-mul (2 ^ low f)) (mul-pos (pow-pos (suc (emax f) + low f)) (down-pos e))))
   where

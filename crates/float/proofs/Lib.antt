@@ -18,3 +18,4 @@ pub mod Evidence
 pub mod Outcome
 pub mod OneOutcome
 pub mod Examples
+pub mod Finites

@@ -5,6 +5,7 @@ use Rattle.float.proofs.sqrt as sqrt
 use Rattle.float.proofs.narrow as narrow
 use Rattle.float.proofs.bits as bits
 use Rattle.float.proofs.clamp as clamp
+use Rattle.float.proofs.finite as finite
 
 pub sqrt-f32-single : Single sqrt.sqrt_f32.Reads.Post
 sqrt-f32-single κs a r r' s s' p q = p ∙ sym q
@@ -41,3 +42,9 @@ clamp-both-f32-single κs a r r' s s' p q = p ∙ sym q
 
 pub at-least-hundredth-f64-single : Single clamp.at_least_hundredth_f64.Reads.Post
 at-least-hundredth-f64-single κs a r r' s s' p q = p ∙ sym q
+
+pub is-finite-f32-single : Single finite.is_finite_f32.Reads.Post
+is-finite-f32-single κs a r r' s s' p q = p ∙ sym q
+
+pub is-finite-f64-single : Single finite.is_finite_f64.Reads.Post
+is-finite-f64-single κs a r r' s s' p q = p ∙ sym q

@@ -67,7 +67,7 @@ law-high f b r K h p l s =
 not-of : (b : Bool) → b ≡ false → T (not b)
 not-of b e = subst (λ (x : Bool). T (not x)) (sym e) tt
 
-inside : (f : Format) → ones f * hid f < top f
+pub inside : (f : Format) → ones f * hid f < top f
 inside f = grows (top f) (ones f * hid f) (hid f) (mul-comm (hid f) (suc (ones f)) ∙ suc-mul (ones f) (hid f)) (pow-pos (prec f - 1))
   where
     grows : (a b c : ℕ) → a ≡ b + c → 0 < c → b < a

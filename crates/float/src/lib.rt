@@ -3,5 +3,6 @@
 // infinities, -0 and subnormals go in and come out as IEEE 754 and the Rust have it.
 pub mod bits;
 pub mod clamp;
+pub mod finite;
 pub mod narrow;
 pub mod sqrt;

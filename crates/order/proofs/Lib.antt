@@ -1,0 +1,13 @@
+pub mod Stretches
+pub mod Orders
+pub mod Diamond
+pub mod Falls
+pub mod OneStep
+pub mod Swaps
+pub mod Keeps
+pub mod Agree
+pub mod Finishing
+pub mod OneFrame
+pub mod FrameByFrame
+pub mod Cuts
+pub mod Turns

@@ -1,0 +1,81 @@
+-- A chain of stages over a block of frames. Every frame goes through stage 0, then stage 1, and so on, and a step takes one
+-- stage over its next frame, in place. X is a sample, two of which are a frame, and H is what all stages hold between frames.
+use mathlib.Core.Path.{_≡_}
+use mathlib.Core.Logic.{_≢_}
+use mathlib.Core.List.{List}
+use Prim.Native.Nat.{ℕ, suc, _-_, _*_, _≤_, _<_}
+use lib.ListN.{length, getD, set}
+use Rattle.order.specs.Stretch.{part, splice}
+
+-- what a stage makes: a frame, and what it holds from then on
+pub record Out (X H : Type 0) : Type 0 where
+  pub frame : List X
+  pub held : H
+
+-- the block's samples, what all stages hold, and the progress: how many frames each stage has done
+pub record State (X H : Type 0) : Type 0 where
+  pub samples : List X
+  pub held : H
+  pub progress : List ℕ
+
+-- n stages. Stage k takes its own out of what all hold, makes a frame and its own anew from them, and puts its own back
+pub record Chain (X H : Type 0) : Type 0 where
+  pub n : ℕ
+  pub own : ℕ → H → H
+  pub put : ℕ → H → H → H
+  pub make : ℕ → List X → H → Out X H
+
+-- may stage k, of n, take a step, in a block of F frames? Only the progress p decides: there is such a stage, it has a frame
+-- left, and the stage before it, if there is one, has done that frame
+pub record OkFrom (n F : ℕ) (p : List ℕ) (k : ℕ) : Type 0 where
+  pub inside : k < n
+  pub room : getD p k 0 < F
+  pub behind : 0 < k → getD p k 0 < getD p (k - 1) 0
+
+module _ {X H : Type 0} where
+  -- the frame that stage k is at
+  abbrev pub at : State X H → ℕ → ℕ
+  at s k = getD (s .progress) k 0
+
+  module _ (C : Chain X H) where
+    -- ---- a step: stage k makes its next frame, which is put where the old one was
+
+    unfoldable pub out : ℕ → State X H → Out X H
+    out k s = C .make k (part (at s k * 2) 2 (s .samples)) (C .own k (s .held))
+
+    unfoldable pub put : ℕ → ℕ → Out X H → State X H → State X H
+    put k p r s = record { samples = splice (p * 2) (r .frame) (s .samples); held = C .put k (r .held) (s .held); progress = set (s .progress) k (suc p) }
+
+    unfoldable pub step : ℕ → State X H → State X H
+    step k s = put k (at s k) (out k s) s
+
+    abbrev pub Ok : ℕ → State X H → ℕ → Type 0
+    Ok F s k = OkFrom (C .n) F (s .progress) k
+
+    -- every stage is at frame F
+    abbrev pub Done : ℕ → State X H → Type 0
+    Done F s = (k : ℕ) → k < C .n → at s k ≡ F
+
+    -- ---- what a chain has to meet. `Fits` is said of what all hold, and `Sized k` of what stage k holds
+
+    module _ (Fits : H → Type 0) (Sized : ℕ → H → Type 0) where
+      pub record Made (k : ℕ) (r : Out X H) : Type 0 where
+        pub frame : length (r .frame) ≡ 2
+        pub held : Sized k (r .held)
+
+      -- stages keep to their own: a stage's own is not changed by another's, and two are put back in either order
+      pub record Local : Type 0 where
+        pub makes : (k : ℕ) (x : List X) (a : H) → k < C .n → length x ≡ 2 → Sized k a → Made k (C .make k x a)
+        pub own-sized : (k : ℕ) (h : H) → k < C .n → Fits h → Sized k (C .own k h)
+        pub put-fits : (k : ℕ) (a h : H) → k < C .n → Fits h → Sized k a → Fits (C .put k a h)
+        pub own-apart : (j k : ℕ) (a h : H) → j ≢ k → j < C .n → k < C .n → Fits h → Sized j a → C .own k (C .put j a h) ≡ C .own k h
+        pub put-apart : (j k : ℕ) (a b h : H) → j < k → k < C .n → Fits h → Sized j a → Sized k b → C .put j a (C .put k b h) ≡ C .put k b (C .put j a h)
+
+    -- what holds between steps, in a block of F frames: there is room for all, no stage is past the last frame, and none is
+    -- ahead of one before it
+    pub record Inv (Fits : H → Type 0) (F : ℕ) (s : State X H) : Type 0 where
+      pub samples : F * 2 ≤ length (s .samples)
+      pub held : Fits (s .held)
+      pub stages : C .n ≤ length (s .progress)
+      pub within : (k : ℕ) → k < C .n → at s k ≤ F
+      pub falls : (a b : ℕ) → a ≤ b → b < C .n → at s b ≤ at s a

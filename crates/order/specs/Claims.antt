@@ -1,0 +1,49 @@
+-- What the theorems of proofs/ say of steps and orders, where it takes more than an equation.
+use mathlib.Core.Path.{_≡_}
+use mathlib.Core.Logic.{_≢_}
+use mathlib.Core.List.{List, _++_}
+use Prim.Native.Nat.{ℕ, suc, _+_, _*_, _≤_, _<_}
+use lib.ListN.{length, getD, drop}
+use Rattle.order.specs.Stretch.{part}
+use Rattle.order.specs.Order.{count, run, Accepted}
+use Rattle.order.specs.Chain.{State, Chain, at, out, step, Ok, Done, Inv}
+
+-- a block of samples xs, with what the stages hold, at progress p
+abbrev pub begin : {X H : Type 0} → List X → H → List ℕ → State X H
+begin xs h p = record { samples = xs; held = h; progress = p }
+
+module _ {X H : Type 0} (C : Chain X H) where
+  -- z is s after a step of stage k: only the frame that stage k was at has changed, and only stage k has moved on
+  pub record Stepped (Fits : H → Type 0) (F k : ℕ) (s z : State X H) : Type 0 where
+    pub before : (a m : ℕ) → a + m ≤ at s k * 2 → part a m (z .samples) ≡ part a m (s .samples)
+    pub frame : part (at s k * 2) 2 (z .samples) ≡ out C k s .frame
+    pub after : drop (suc (at s k) * 2) (z .samples) ≡ drop (suc (at s k) * 2) (s .samples)
+    pub samples : length (z .samples) ≡ length (s .samples)
+    pub held : z .held ≡ C .put k (out C k s .held) (s .held)
+    pub moved : at z k ≡ suc (at s k)
+    pub others : (j : ℕ) → j ≢ k → at z j ≡ at s j
+    pub progress : length (z .progress) ≡ length (s .progress)
+    pub inv : Inv C Fits F z
+
+  -- z is s after an accepted order xs: each stage has done as many frames more as xs names it, and xs names stages only
+  pub record Kept (Fits : H → Type 0) (F : ℕ) (xs : List ℕ) (s z : State X H) : Type 0 where
+    pub inv : Inv C Fits F z
+    pub moved : (i : ℕ) → at z i ≡ count i xs + at s i
+    pub entries : (i : ℕ) → i < length xs → getD xs i 0 < C .n
+    pub samples : length (z .samples) ≡ length (s .samples)
+    pub progress : length (z .progress) ≡ length (s .progress)
+
+  -- an order that is accepted, and brings every stage to frame F
+  pub record Finishes (F : ℕ) (s : State X H) (xs : List ℕ) : Type 0 where
+    pub accepted : Accepted (step C) (Ok C F) s xs
+    pub done : Done C F (run (step C) s xs)
+
+  -- one that does so from a block that no stage has begun
+  pub record Whole (F : ℕ) (s : State X H) (xs : List ℕ) : Type 0 where
+    pub fresh : Done C 0 s
+    pub finishes : Finishes F s xs
+
+-- what a block leaves is what its two parts leave, one after the other
+pub record Cut {X H : Type 0} (r r₁ r₂ : State X H) : Type 0 where
+  pub samples : r .samples ≡ r₁ .samples ++ r₂ .samples
+  pub held : r .held ≡ r₂ .held

@@ -1,0 +1,31 @@
+-- An order: a list of numbers, each of which names a step to take. Over any kind S of state.
+use mathlib.Core.List.{List, [], _∷_}
+use Prim.Native.Nat.{ℕ, _+_}
+use native.Mathlib.Decide.{ℕ-discrete}
+
+-- ---- how often an order names i
+
+abbrev pub one-if : {P : Type 0} → Dec P → ℕ
+one-if (yes e) = 1
+one-if (no d) = 0
+
+-- 1 where i is k, else 0
+unfoldable pub hit : ℕ → ℕ → ℕ
+hit i k = one-if (ℕ-discrete i k)
+
+unfoldable pub count : ℕ → List ℕ → ℕ
+count i [] = 0
+count i (k ∷ ks) = hit i k + count i ks
+
+-- ---- an order run, and an order accepted, entry by entry
+
+module _ {S : Type 0} (step : ℕ → S → S) where
+  -- what the steps leave, taken one after another
+  abbrev pub run : S → List ℕ → S
+  run s [] = s
+  run s (k ∷ ks) = run (step k s) ks
+
+  -- each step may be taken (`Ok`) in the state that those before it leave
+  abbrev pub Accepted : (S → ℕ → Type 0) → S → List ℕ → Type 0
+  Accepted Ok s [] = Unit {0}
+  Accepted Ok s (k ∷ ks) = Ok s k × Accepted Ok (step k s) ks

@@ -1,0 +1,55 @@
+-- Whole frame after whole frame: as an order, and said again with no progress and no order, by recursion over the frames.
+use mathlib.Core.List.{List, [], _∷_, _++_}
+use Prim.Native.Nat.{ℕ, zero, suc, _*_}
+use lib.ListN.{take, drop}
+use Rattle.order.specs.Chain.{Out, State, Chain}
+
+-- ---- the order
+
+-- each of m stages, from stage k on, once
+unfoldable pub row : ℕ → ℕ → List ℕ
+row k zero = []
+row k (suc m) = k ∷ row (suc k) m
+
+-- m frames, each through all n stages
+unfoldable pub frames : ℕ → ℕ → List ℕ
+frames n zero = []
+frames n (suc m) = row 0 n ++ frames n m
+
+-- ---- the recursion. Here an `Out` is a run of samples of any length, with what all stages hold
+
+module _ {X H : Type 0} where
+  -- a block's samples from frame t on
+  unfoldable pub from : ℕ → State X H → Out X H
+  from t s = record { frame = drop (t * 2) (s .samples); held = s .held }
+
+  -- the first frame alone
+  unfoldable pub first : Out X H → Out X H
+  first r = record { frame = take 2 (r .frame); held = r .held }
+
+  -- all but the first frame of r, with what stages hold after q
+  unfoldable pub rest : Out X H → Out X H → Out X H
+  rest q r = record { frame = drop 2 (r .frame); held = q .held }
+
+  -- q, and what came after it
+  unfoldable pub joined : Out X H → Out X H → Out X H
+  joined q u = record { frame = q .frame ++ u .frame; held = u .held }
+
+  module _ (C : Chain X H) where
+    -- a frame that stage k made, with its own put back
+    unfoldable pub back : ℕ → Out X H → Out X H → Out X H
+    back k q r = record { frame = q .frame; held = C .put k (q .held) (r .held) }
+
+    -- a frame through stage k
+    unfoldable pub one : ℕ → Out X H → Out X H
+    one k r = back k (C .make k (r .frame) (C .own k (r .held))) r
+
+    -- a frame through m stages, from stage k on
+    unfoldable pub pass : ℕ → ℕ → Out X H → Out X H
+    pass k zero r = r
+    pass k (suc m) r = pass (suc k) m (one k r)
+
+    -- m frames, one after another, each through all stages
+    unfoldable pub render : ℕ → Out X H → Out X H
+    render zero r = r
+    render (suc m) r = joined (pass 0 (C .n) (first r)) (render m (rest (pass 0 (C .n) (first r)) r))
