@@ -4,6 +4,9 @@
 //   float            a line for each function: how many inputs, and how many of them differ
 //   float --all      also every f32, and every tie between two neighbouring f32 (minutes)
 //   float --sample   prints crates/float_replay/src/sample.rt: answers of Rust's, and nothing of ours
+mod common;
+
+use common::{Random, bits32, bits64};
 use std::collections::HashSet;
 use std::hint::black_box;
 use std::process::ExitCode;
@@ -27,22 +30,6 @@ const SHOWN: u64 = 5;
 
 fn single(bits: u64) -> f32 {
     f32::from_bits(bits as u32)
-}
-
-fn bits32(x: f32) -> u64 {
-    if x.is_nan() {
-        0x7fc0_0000
-    } else {
-        x.to_bits() as u64
-    }
-}
-
-fn bits64(x: f64) -> u64 {
-    if x.is_nan() {
-        0x7ff8_0000_0000_0000
-    } else {
-        x.to_bits()
-    }
 }
 
 // From the bits of an input to the bits of the answer.
@@ -96,23 +83,6 @@ const AT_LEAST_HUNDREDTH_F64: Pair = Pair {
 };
 
 // ---- inputs
-
-// Marsaglia's xorshift64 with the multiplier of xorshift64*: the same numbers at every run.
-struct Random(u64);
-
-impl Random {
-    fn next(&mut self) -> u64 {
-        self.0 ^= self.0 >> 12;
-        self.0 ^= self.0 << 25;
-        self.0 ^= self.0 >> 27;
-        self.0.wrapping_mul(0x2545_f491_4f6c_dd1d)
-    }
-
-    // at most 2^32
-    fn below(&mut self, n: u64) -> u64 {
-        (self.next() >> 32) * n >> 32
-    }
-}
 
 // A format: the digits after the first, and the width of its patterns.
 #[derive(Clone, Copy)]

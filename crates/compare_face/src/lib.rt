@@ -5,6 +5,9 @@ ghost use lib.Ieee.{binary32, binary64};
 ghost use Rattle.float.specs.Root.{sqrtOf};
 ghost use Rattle.float.specs.Narrow.{narrowOf};
 ghost use Rattle.float.specs.Clamp.{absOf, unitOf, bothOf, hundredthOf};
+ghost use Rattle.decibels.specs.Amplitude.{amplitudeOf, eqAmplitudeOf};
+
+pub mod effects;
 
 #[no_mangle]
 pub extern "C" fn sedhavil_sqrt_f32(x: f32) -> f32
@@ -60,4 +63,18 @@ pub extern "C" fn sedhavil_at_least_hundredth_f64(x: f64) -> f64
     ensures { λ r. ⌜ r ≡ hundredthOf x ⌝ }
 {
     float::clamp::at_least_hundredth_f64(x)
+}
+
+#[no_mangle]
+pub extern "C" fn sedhavil_amplitude(decibels: i32) -> f32
+    ensures { λ r. ⌜ r ≡ amplitudeOf decibels ⌝ }
+{
+    decibels::amplitude(decibels)
+}
+
+#[no_mangle]
+pub extern "C" fn sedhavil_eq_amplitude(gain: i32) -> f64
+    ensures { λ r. ⌜ r ≡ eqAmplitudeOf gain ⌝ }
+{
+    decibels::eq_amplitude(gain)
 }

@@ -1,0 +1,1 @@
+// The `handle` of every effect: there is nothing to hold.

@@ -1,0 +1,5 @@
+use crate::{Panning, Value};
+
+pub struct PanningControlBuilder(pub Value<Panning>);
+
+crate::opened!(OpenPanningControl, PanningControl, PanningControlBuilder);

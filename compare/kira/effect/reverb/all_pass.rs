@@ -1,0 +1,10 @@
+// kira's file, whose fields are private to it, so that what reads and sets them stands in one
+// module with it.
+include!("all_pass/unchanged.rs");
+
+impl AllPassFilter {
+    /// `buffer` and `current_index`
+    pub fn memory(&mut self) -> (&mut [f32], &mut usize) {
+        (&mut self.buffer, &mut self.current_index)
+    }
+}

@@ -1,0 +1,13 @@
+-- The tests on the code pick the case as the definition does. Assumes nothing.
+use borrow.Author.Tests.{eq-eqb, ne-eqb}
+use Rattle.compare_face.proofs.effects.kind_at.Statement.{statement}
+use Rattle.compare_face.proofs.effects.kind_at.Tie as tie
+
+returns : tie.Need-returns
+returns c = simp (eq-eqb _ _ (c .if1 .taken))
+
+returns-2 : tie.Need-returns-2
+returns-2 c = simp (ne-eqb _ _ (c .if1 .left))
+
+pub kind-at-spec : {M : Type 1} → statement M
+kind-at-spec = tie.close (tie.spec returns returns-2)

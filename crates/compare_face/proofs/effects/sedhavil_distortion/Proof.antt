@@ -1,0 +1,24 @@
+-- What `process` promises, of the frame and the kind that the arguments stand for; a level goes through as the integer that it is (`toZ-ofZ`). Assumes nothing.
+use mir.Syntax.{w32}
+use mir.ValLaws.{toZ-ofZ}
+use borrow.Author.Needs.{needs}
+use Rattle.compare_face.proofs.effects.sedhavil_distortion.Statement.{statement}
+use Rattle.compare_face.proofs.effects.sedhavil_distortion.Tie as tie
+
+frame-in-requires : tie.Need-frame-in-requires
+frame-in-requires c κs = search needs
+
+kind-at-requires : tie.Need-kind-at-requires
+kind-at-requires c κs = search needs
+
+process-requires : tie.Need-process-requires
+process-requires c κs = search needs
+
+pair-out-requires : tie.Need-pair-out-requires
+pair-out-requires c κs = search needs
+
+returns : tie.Need-returns
+returns c = cc (toZ-ofZ w32 (c .before .before .before .before .args .drive) (c .before .before .before .before .fits .drive))
+
+pub sedhavil-distortion-spec : {M : Type 1} → statement M
+sedhavil-distortion-spec = tie.close (tie.spec frame-in-requires kind-at-requires process-requires pair-out-requires returns)

@@ -1,0 +1,31 @@
+-- The structs of this crate, which C can read, and those of the crates below: the same numbers under the same names. Definitions only.
+use Rattle.frame.specs.declared.Frame.{Frame}
+use Rattle.effect.specs.declared.integrators.Integrators.{Integrators}
+use Rattle.effect.specs.declared.integrators.Filtered.{Filtered}
+use Rattle.effect.specs.declared.integrators.Weights.{Weights}
+use Rattle.effect.specs.declared.eq_filter.Coefficients.{Coefficients}
+use Rattle.compare_face.specs.declared.effects.Pair.{Pair}
+use Rattle.compare_face.specs.declared.effects.Memory.{Memory}
+use Rattle.compare_face.specs.declared.effects.Answer.{Answer}
+use Rattle.compare_face.specs.declared.effects.Three.{Three}
+use Rattle.compare_face.specs.declared.effects.Six.{Six}
+
+abbrev pub frameIn : Pair → Frame
+frameIn p = record { left = p .left; right = p .right }
+
+abbrev pub pairOut : Frame → Pair
+pairOut f = record { left = f .left; right = f .right }
+
+abbrev pub integratorsIn : Memory → Integrators
+integratorsIn m = record { ic1eq = frameIn (m .ic1eq); ic2eq = frameIn (m .ic2eq) }
+
+abbrev pub answerOut : Filtered → Answer
+answerOut f =
+    let after = f .after in
+    record { output = pairOut (f .output); after = record { ic1eq = pairOut (after .ic1eq); ic2eq = pairOut (after .ic2eq) } }
+
+abbrev pub weightsOut : Weights → Three
+weightsOut w = record { a1 = w .a1; a2 = w .a2; a3 = w .a3 }
+
+abbrev pub coefficientsOut : Coefficients → Six
+coefficientsOut c = record { a1 = c .a1; a2 = c .a2; a3 = c .a3; m0 = c .m0; m1 = c .m1; m2 = c .m2 }

@@ -1,0 +1,234 @@
+// The crate `effect`: each function calls the `process` of its kind, and promises what that one
+// does, in structs that C can read.
+ghost use mathlib.Core.Path.{_≡_};
+ghost use Rattle.effect.specs.VolumeControl.{volumeOf};
+ghost use Rattle.effect.specs.PanningControl.{panningOf};
+ghost use Rattle.effect.specs.Distortion.{distortionOf};
+ghost use Rattle.effect.specs.Integrators.{weightsOf};
+ghost use Rattle.effect.specs.Filter.{filterOf};
+ghost use Rattle.effect.specs.EqFilter.{coefficientsOf, eqOf};
+ghost use Rattle.compare_face.specs.Codes.{kindAt, modeAt, eqKindAt};
+ghost use Rattle.compare_face.specs.Structs.{frameIn, pairOut, integratorsIn, answerOut, weightsOut, coefficientsOut};
+use effect::distortion::DistortionKind;
+use effect::eq_filter::Coefficients;
+use effect::eq_filter::EqFilterKind;
+use effect::filter::FilterMode;
+use effect::integrators::Filtered;
+use effect::integrators::Integrators;
+use frame::Frame;
+
+#[repr(C)]
+pub struct Pair {
+    pub left: f32,
+    pub right: f32,
+}
+
+// The two frames that a filter remembers.
+#[repr(C)]
+pub struct Memory {
+    pub ic1eq: Pair,
+    pub ic2eq: Pair,
+}
+
+#[repr(C)]
+pub struct Answer {
+    pub output: Pair,
+    pub after: Memory,
+}
+
+#[repr(C)]
+pub struct Three {
+    pub a1: f64,
+    pub a2: f64,
+    pub a3: f64,
+}
+
+#[repr(C)]
+pub struct Six {
+    pub a1: f64,
+    pub a2: f64,
+    pub a3: f64,
+    pub m0: f64,
+    pub m1: f64,
+    pub m2: f64,
+}
+
+fn kind_at(code: u32) -> DistortionKind
+    ensures { λ r. ⌜ r ≡ kindAt code ⌝ }
+{
+    if code == 0 {
+        return DistortionKind::HardClip;
+    }
+    DistortionKind::SoftClip
+}
+
+fn mode_at(code: u32) -> FilterMode
+    ensures { λ r. ⌜ r ≡ modeAt code ⌝ }
+{
+    if code == 0 {
+        return FilterMode::LowPass;
+    }
+    if code == 1 {
+        return FilterMode::BandPass;
+    }
+    if code == 2 {
+        return FilterMode::HighPass;
+    }
+    FilterMode::Notch
+}
+
+fn eq_kind_at(code: u32) -> EqFilterKind
+    ensures { λ r. ⌜ r ≡ eqKindAt code ⌝ }
+{
+    if code == 0 {
+        return EqFilterKind::Bell;
+    }
+    if code == 1 {
+        return EqFilterKind::LowShelf;
+    }
+    EqFilterKind::HighShelf
+}
+
+fn frame_in(pair: Pair) -> Frame
+    ensures { λ r. ⌜ r ≡ frameIn pair ⌝ }
+{
+    Frame {
+        left: pair.left,
+        right: pair.right,
+    }
+}
+
+fn pair_out(frame: Frame) -> Pair
+    ensures { λ r. ⌜ r ≡ pairOut frame ⌝ }
+{
+    Pair {
+        left: frame.left,
+        right: frame.right,
+    }
+}
+
+fn integrators_in(memory: Memory) -> Integrators
+    ensures { λ r. ⌜ r ≡ integratorsIn memory ⌝ }
+{
+    Integrators {
+        ic1eq: Frame {
+            left: memory.ic1eq.left,
+            right: memory.ic1eq.right,
+        },
+        ic2eq: Frame {
+            left: memory.ic2eq.left,
+            right: memory.ic2eq.right,
+        },
+    }
+}
+
+fn answer_out(filtered: Filtered) -> Answer
+    ensures { λ r. ⌜ r ≡ answerOut filtered ⌝ }
+{
+    Answer {
+        output: Pair {
+            left: filtered.output.left,
+            right: filtered.output.right,
+        },
+        after: Memory {
+            ic1eq: Pair {
+                left: filtered.after.ic1eq.left,
+                right: filtered.after.ic1eq.right,
+            },
+            ic2eq: Pair {
+                left: filtered.after.ic2eq.left,
+                right: filtered.after.ic2eq.right,
+            },
+        },
+    }
+}
+
+#[no_mangle]
+pub extern "C" fn sedhavil_volume_control(input: Pair, volume: i32) -> Pair
+    ensures { λ r. ⌜ r ≡ pairOut (volumeOf volume (frameIn input)) ⌝ }
+{
+    pair_out(effect::volume_control::process(frame_in(input), volume))
+}
+
+#[no_mangle]
+pub extern "C" fn sedhavil_panning_control(input: Pair, panning: f32) -> Pair
+    ensures { λ r. ⌜ r ≡ pairOut (panningOf panning (frameIn input)) ⌝ }
+{
+    pair_out(effect::panning_control::process(frame_in(input), panning))
+}
+
+#[no_mangle]
+pub extern "C" fn sedhavil_distortion(input: Pair, kind: u32, drive: i32, mix: f32) -> Pair
+    ensures { λ r. ⌜ r ≡ pairOut (distortionOf (kindAt kind) drive mix (frameIn input)) ⌝ }
+{
+    pair_out(effect::distortion::process(frame_in(input), kind_at(kind), drive, mix))
+}
+
+#[no_mangle]
+pub extern "C" fn sedhavil_filter(
+    input: Pair,
+    memory: Memory,
+    mode: u32,
+    g: f64,
+    resonance: f64,
+    mix: f32,
+) -> Answer
+    ensures { λ r. ⌜ r ≡ answerOut (filterOf (modeAt mode) g resonance mix (integratorsIn memory) (frameIn input)) ⌝ }
+{
+    answer_out(effect::filter::process(
+        frame_in(input),
+        integrators_in(memory),
+        mode_at(mode),
+        g,
+        resonance,
+        mix,
+    ))
+}
+
+#[no_mangle]
+pub extern "C" fn sedhavil_eq_filter(
+    input: Pair,
+    memory: Memory,
+    kind: u32,
+    g: f64,
+    q: f64,
+    gain: i32,
+) -> Answer
+    ensures { λ r. ⌜ r ≡ answerOut (eqOf (eqKindAt kind) g q gain (integratorsIn memory) (frameIn input)) ⌝ }
+{
+    answer_out(effect::eq_filter::process(
+        frame_in(input),
+        integrators_in(memory),
+        eq_kind_at(kind),
+        g,
+        q,
+        gain,
+    ))
+}
+
+#[no_mangle]
+pub extern "C" fn sedhavil_weigh(g: f64, k: f64) -> Three
+    ensures { λ r. ⌜ r ≡ weightsOut (weightsOf g k) ⌝ }
+{
+    let w = effect::integrators::weigh(g, k);
+    Three {
+        a1: w.a1,
+        a2: w.a2,
+        a3: w.a3,
+    }
+}
+
+#[no_mangle]
+pub extern "C" fn sedhavil_coefficients(kind: u32, g: f64, q: f64, gain: i32) -> Six
+    ensures { λ r. ⌜ r ≡ coefficientsOut (coefficientsOf (eqKindAt kind) g q gain) ⌝ }
+{
+    let c = Coefficients::calculate(eq_kind_at(kind), g, q, gain);
+    Six {
+        a1: c.a1,
+        a2: c.a2,
+        a3: c.a3,
+        m0: c.m0,
+        m1: c.m1,
+        m2: c.m2,
+    }
+}
