@@ -1,0 +1,30 @@
+use Prim.Native.Nat.{_+_, _≤_}
+use native.Mathlib.Omega.{arith}
+use borrow.Author.Needs.{needs}
+use borrow.Author.Tests.{lt-ltb, le-ltb}
+use Rattle.line.specs.Position.{nextOf}
+use Rattle.line.proofs.position.next_position.Statement.{statement}
+use Rattle.line.proofs.position.next_position.Tie as tie
+
+add-if2 : tie.Need-add-if2
+add-if2 c = search needs
+
+add-result : tie.Need-add-result
+add-result c = search needs
+
+returns : tie.Need-returns
+unfolding nextOf
+returns c = simp (lt-ltb _ _ (c .if2 .taken))
+
+returns-2 : tie.Need-returns-2
+unfolding nextOf
+returns-2 c = simp (le-ltb _ _ (c .if2 .left))
+
+returns-3 : tie.Need-returns-3
+unfolding nextOf
+returns-3 c =
+    let h : c .before .args .length ≤ c .before .args .at + 1 = omega arith in
+    simp (le-ltb _ _ h)
+
+pub next-position-spec : {M : Type 1} → statement M
+next-position-spec = tie.close (tie.spec add-if2 add-result returns returns-2 returns-3)

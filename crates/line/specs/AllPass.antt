@@ -1,0 +1,16 @@
+-- kira's `all_pass.rs`, one step: read the old float, then store, then move on. Definitions only.
+use mathlib.Core.List.{List}
+use Prim.Native.Nat.{ℕ}
+use lib.ListN.{length, getD, set}
+use lib.Ieee.{Float, nan, binary32, add, mul, neg}
+use Rattle.float.specs.Literal.{literal}
+use Rattle.line.specs.declared.all_pass.Passed.{Passed}
+use Rattle.line.specs.Position.{nextOf}
+
+-- `-input + buffer_output`
+unfoldable pub passedOf : Float → ℕ → List Float → Passed
+passedOf input at line = record { output = add binary32 (neg input) (getD line at nan); at = nextOf at (length line) }
+
+-- `input + buffer_output * FEEDBACK`
+unfoldable pub passLineOf : Float → ℕ → List Float → List Float
+passLineOf input at line = set line at (add binary32 input (mul binary32 (getD line at nan) (literal binary32 1 2)))

@@ -1,0 +1,7 @@
+pub mod Held
+pub mod Position
+pub mod Comb
+pub mod AllPass
+pub mod Frames
+pub mod Tuning
+pub mod Reverb

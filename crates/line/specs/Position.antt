@@ -1,0 +1,7 @@
+-- The next position on a line: one on, and from the last place to the first. Definitions only.
+use mathlib.Core.Bool.{cond}
+use Prim.Native.Nat.{ℕ, _+_}
+use lib.Dec.{ltb}
+
+unfoldable pub nextOf : ℕ → ℕ → ℕ
+nextOf at length = cond (ltb (at + 1) length) (at + 1) 0

@@ -1,0 +1,40 @@
+// kira's `comb.rs`: the old float is read, then the new one is stored in its place, then the
+// position moves on. A position past the line's end reads NaN and stores nothing.
+ghost use mathlib.Core.Path.{_≡_};
+ghost use Rattle.line.specs.Comb.{combedOf, combLineOf};
+use crate::position::next_position;
+
+pub struct Combed {
+    pub output: f32,
+    pub at: usize,
+    pub filter_store: f32,
+}
+
+pub fn process(
+    line: &mut [f32],
+    at: usize,
+    filter_store: f32,
+    input: f32,
+    feedback: f32,
+    damp: f32,
+) -> Combed
+    ensures { λ r. ⌜ (r ≡ combedOf damp at «filter_store» (now (line .entry))) × (now (line .exit) ≡ combLineOf feedback damp input at «filter_store» (now (line .entry))) ⌝ }
+{
+    let next = next_position(at, line.len());
+    if at < line.len() {
+        let output = line[at];
+        let stored = output * (1.0 - damp) + filter_store * damp;
+        line[at] = input + stored * feedback;
+        return Combed {
+            output,
+            at: next,
+            filter_store: stored,
+        };
+    }
+    let output = 0.0 / 0.0;
+    Combed {
+        output,
+        at: next,
+        filter_store: output * (1.0 - damp) + filter_store * damp,
+    }
+}
