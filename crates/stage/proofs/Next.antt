@@ -1,0 +1,34 @@
+-- Laws of the place after a stage and the stages that it owns: never past the end, and always further on. Assumes nothing.
+use mathlib.Core.Path.{_≡_, refl, ap}
+use mathlib.Core.Bool.{Bool, cond}
+use Prim.Native.Nat.{ℕ, _+_, _-_, _≤_, _<_}
+use native.Mathlib.Omega.{arith}
+use native.Mathlib.Decide.{decLt}
+use borrow.Author.Tests.{lt-ltb, le-ltb}
+use Rattle.stage.specs.declared.kind.Stage.{Stage}
+use Rattle.stage.specs.Kind.{ownedOf, nextOf}
+
+module _ (s : Stage) (i end : ℕ) where
+  -- what it owns stays inside
+  pub next-inside : ownedOf s < end - i → nextOf s i end ≡ i + 1 + ownedOf s
+  unfolding nextOf
+  next-inside h = ap (λ (b : Bool). cond b (i + 1 + ownedOf s) end) (lt-ltb (ownedOf s) (end - i) h)
+
+  -- or does not
+  pub next-outside : end - i ≤ ownedOf s → nextOf s i end ≡ end
+  unfolding nextOf
+  next-outside h = ap (λ (b : Bool). cond b (i + 1 + ownedOf s) end) (le-ltb (ownedOf s) (end - i) h)
+
+  pub next-le : nextOf s i end ≤ end
+  next-le = go (decLt (ownedOf s) (end - i))
+    where
+      go : Dec (ownedOf s < end - i) → nextOf s i end ≤ end
+      go (yes h) = omega (arith, next-inside h)
+      go (no h) = omega (arith, next-outside (omega arith))
+
+  pub next-more : i < end → i < nextOf s i end
+  next-more g = go (decLt (ownedOf s) (end - i))
+    where
+      go : Dec (ownedOf s < end - i) → i < nextOf s i end
+      go (yes h) = omega (arith, next-inside h)
+      go (no h) = omega (arith, next-outside (omega arith))

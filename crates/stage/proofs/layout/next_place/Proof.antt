@@ -1,0 +1,36 @@
+-- `layout::next_place` meets its contract: the laws of proofs/Next.antt, one for each branch. Assumes nothing.
+use mathlib.Core.Path.{sym, _∙_}
+use native.Mathlib.Omega.{arith}
+use Rattle.stage.proofs.Next.{next-inside, next-outside}
+use borrow.Author.Needs.{needs}
+use Rattle.stage.proofs.layout.next_place.Statement.{statement}
+use Rattle.stage.proofs.layout.next_place.Tie as tie
+
+owned-requires : tie.Need-owned-requires
+owned-requires c κs = search needs
+
+sub-if2 : tie.Need-sub-if2
+sub-if2 c = search needs
+
+add-result : tie.Need-add-result
+add-result c = search needs
+
+add-result-2 : tie.Need-add-result-2
+add-result-2 c = search needs
+
+returns : tie.Need-returns
+returns c =
+    let start = c .before .before .before in
+    (sym (next-inside (start .args .stage) (start .args .i) (start .args .end) (omega (arith, c .before .owned .ensures)) ∙ rw (← c .before .owned .ensures)), omega arith, λ h. omega arith)
+
+returns-2 : tie.Need-returns-2
+returns-2 c =
+    let start = c .before .before .before in
+    (sym (next-outside (start .args .stage) (start .args .i) (start .args .end) (omega (arith, c .before .owned .ensures))), omega arith, λ h. h)
+
+returns-3 : tie.Need-returns-3
+returns-3 c = (sym (next-outside (c .before .args .stage) (c .before .args .i) (c .before .args .end) (omega arith)), omega arith, λ h. h)
+
+pub next-place-spec : {M : Type 1} → statement M
+next-place-spec =
+    tie.close (tie.spec owned-requires sub-if2 add-result add-result-2 returns returns-2 returns-3)

@@ -1,0 +1,91 @@
+-- `layout::starts_of` meets its contract. The loop's invariant: the starts up to place i stand, and the last of them is at most i times what one stage can have. The measure is 16 - i. Assumes nothing.
+use mathlib.Core.Path.{_≡_, refl}
+use Prim.Native.Nat.{ℕ, _+_, _*_, _-_, _≤_, _<_}
+use native.Mathlib.Omega.{arith}
+use lib.ListN.{length, getD, length-set}
+use borrow.Author.Needs.{needs}
+use Rattle.stage.specs.Layout.{startOf}
+use Rattle.stage.proofs.Starts.{start-more, starts-more, starts-filled}
+use Rattle.stage.proofs.layout.starts_of.Statement.{statement}
+use Rattle.stage.proofs.layout.starts_of.Tie as tie
+
+abbrev Inv-loop : tie.InvT-loop
+Inv-loop rate stages starts₀ i₀ starts i =
+    (i ≤ 16) × (length starts ≡ 17) × ((k : ℕ) → k < i + 1 → getD starts k 0 ≡ startOf rate stages k) × (startOf rate stages i ≤ i * (24 * 0x1_0000_0000))
+
+abbrev μ-loop : tie.MeasureT-loop
+μ-loop rate stages starts₀ i₀ starts i = 16 - i
+
+loop-holds : tie.Need-loop-holds Inv-loop μ-loop
+unfolding startOf
+loop-holds c = (omega arith, refl, λ k h. let e : k ≡ 0 = omega arith in rw e, omega arith)
+
+mul-stage : tie.Need-mul-stage Inv-loop μ-loop
+mul-stage c = search needs
+
+array-copy-out-stage : tie.Need-array-copy-out-stage Inv-loop μ-loop
+array-copy-out-stage c = search needs
+
+mul-at : tie.Need-mul-at Inv-loop μ-loop
+mul-at c = search needs
+
+array-read-at : tie.Need-array-read-at Inv-loop μ-loop
+array-read-at c = search needs
+
+floats-of-requires : tie.Need-floats-of-requires Inv-loop μ-loop
+floats-of-requires c κs = search needs
+
+add-starts : tie.Need-add-starts Inv-loop μ-loop
+add-starts c =
+    let at = c .before .before .before .loop in
+    omega (arith, at .inv .2 (at .i) (omega arith), at .inv .3, c .floats-of .ensures .1)
+
+add-starts-2 : tie.Need-add-starts-2 Inv-loop μ-loop
+add-starts-2 c = search needs
+
+mul-starts : tie.Need-mul-starts Inv-loop μ-loop
+mul-starts c = search needs
+
+array-write-starts : tie.Need-array-write-starts Inv-loop μ-loop
+array-write-starts c = search needs
+
+add-i : tie.Need-add-i Inv-loop μ-loop
+add-i c = search needs
+
+loop-less : tie.Need-loop-less Inv-loop μ-loop
+loop-less c = search needs
+
+loop-again : tie.Need-loop-again Inv-loop μ-loop
+loop-again c =
+    let start = c .before .before .before .before in
+    let at = c .before .before .before .loop in
+    let more = start-more (start .args .rate) (start .args .t2) (at .i) in (
+      omega arith,
+      simp length-set (at .inv .1),
+      starts-more (start .args .rate) (start .args .t2) (at .starts) (at .inv .1) (at .i + 1) _ (omega arith) (at .inv .2) (omega (arith, more, at .inv .2 (at .i) (omega arith), c .floats-of .ensures .0)),
+      omega (arith, more, at .inv .3, c .floats-of .ensures .0, c .floats-of .ensures .1),
+    )
+
+returns : tie.Need-returns Inv-loop μ-loop
+returns c = starts-filled (c .before .before .args .rate) (c .before .before .args .t2) (c .before .loop .starts) (c .before .loop .inv .1) (λ k h. c .before .loop .inv .2 k (omega arith))
+
+pub starts-of-spec : {M : Type 1} → statement M
+starts-of-spec =
+    tie.close
+    (tie.spec
+    Inv-loop
+    μ-loop
+    loop-holds
+    mul-stage
+    array-copy-out-stage
+    mul-at
+    array-read-at
+    floats-of-requires
+    add-starts
+    add-starts-2
+    mul-starts
+    array-write-starts
+    add-i
+    loop-less
+    loop-again
+    returns)

@@ -1,0 +1,5 @@
+pub mod First
+pub mod Kind
+pub mod Layout
+pub mod Lines
+pub mod Range
