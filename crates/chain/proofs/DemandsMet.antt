@@ -1,0 +1,92 @@
+-- Demands 2 and 3 are met, as specs/Demands.antt states them. Assumes nothing.
+use mathlib.Core.Path.{_≡_, refl, sym, ap, ap₂, _∙_, subst}
+use mathlib.Core.Bool.{Bool, true, cond}
+use mathlib.Core.List.{List, [], _∷_, _++_}
+use Prim.Native.Nat.{ℕ, suc, _+_, _*_, _/_, _≤_, _<_}
+use native.Mathlib.Omega.{arith}
+use lib.Ieee.{Float}
+use lib.ListN.{length, length-append}
+use Rattle.line.specs.Held.{Held}
+use Rattle.order.specs.Chain.{State, Chain, Inv, step}
+use Rattle.order.specs.Render.{frames, from}
+use Rattle.order.specs.Claims.{begin, Cut, Whole, Finishes, Kept}
+use Rattle.order.proofs.OneStep.{one-step}
+use Rattle.order.proofs.Agree.{orders-agree}
+use Rattle.order.proofs.FrameByFrame.{frames-whole, frame-by-frame, order-renders}
+use Rattle.order.proofs.Cuts.{cut-parts}
+use Rattle.stage.specs.declared.kind.Stage.{Stage}
+use Rattle.refuse.specs.Answer.{acceptedOf}
+use Rattle.refuse.specs.Tops.{topsOf}
+use Rattle.refuse.proofs.Clears.{clear-of-accepted, accepted-of-clear}
+use Rattle.chain.specs.Chain.{Room, chainOf, framesOf, Ready, Orderly, stepped, ordered}
+use Rattle.chain.specs.Run.{answerOn, leftOf}
+use Rattle.chain.specs.Demands.{Arrays, Taken, Finishing, SingleSteps, StepByStep, OneStep, StepsKeepApart, AnyOrder, FrameAfterFrame, WholeFrames, CutAt, CutAnywhere}
+use Rattle.chain.proofs.ChainLocal.{Sized, chain-local}
+use Rattle.chain.proofs.Accepts.{ClearOn, ready, orderly, clear-with, arrays-stay, clear-stays, clear-after}
+
+module _ (rate : ℕ) (l : List Stage) (c : ℕ) where
+  pub clear : (s : State Float Held) (order : List ℕ) → Taken rate l c s order → ClearOn rate l c s order
+  clear s order t = clear-of-accepted rate l c (length (s .held .store)) (s .samples) (s .held .positions) (s .progress) order t
+
+  pub taken : (s : State Float Held) (order : List ℕ) → ClearOn rate l c s order → Taken rate l c s order
+  unfolding acceptedOf
+  taken s order z = ap acceptedOf (accepted-of-clear rate l c (length (s .held .store)) (s .samples) (s .held .positions) (s .progress) order z)
+
+  pub left-is : (s : State Float Held) (order : List ℕ) → Taken rate l c s order → leftOf rate l c s order ≡ ordered rate l c s order
+  left-is s order t = ap (λ (b : Bool). cond b (ordered rate l c s order) s) t
+
+-- ---- demand 2
+pub step-by-step : StepByStep
+step-by-step rate l c s k order a t =
+    let z = clear rate l c s (k ∷ order) t in
+    let first = taken rate l c s (k ∷ []) (clear-with rate l c s (k ∷ order) (k ∷ []) z (orderly rate l c s (k ∷ order) z .0, tt)) in
+    let one = left-is rate l c s (k ∷ []) first in
+    let others = taken rate l c (stepped rate l c k s) order (clear-stays rate l c s k order a z) in
+    record {
+      first = first;
+      others = subst (λ (w : State Float Held). Taken rate l c w order) (sym one) others;
+      same = left-is rate l c s (k ∷ order) t ∙ sym (left-is rate l c (stepped rate l c k s) order others) ∙ ap (λ (w : State Float Held). leftOf rate l c w order) (sym one);
+      step-is = one;
+    }
+
+-- ---- demand 3: a step
+pub steps-keep-apart : StepsKeepApart
+steps-keep-apart rate l c s k a t =
+    let z = clear rate l c s (k ∷ []) t in
+    let w = one-step (chainOf rate l c) (Room rate l c) (Sized rate l c) (chain-local rate l c) (framesOf (s .samples)) s k (ready rate l c s (k ∷ []) a z) (orderly rate l c s (k ∷ []) z .0) in
+    subst (OneStep rate l c k s) (sym (left-is rate l c s (k ∷ []) t))
+    (record { before = w .before; after = w .after; held = w .held; moved = w .moved; others = w .others; falls = w .inv .falls })
+
+-- any two orders
+pub any-order : AnyOrder
+any-order rate l c s xs ys a t u n =
+    let z = clear rate l c s xs t in
+    left-is rate l c s xs t
+    ∙ orders-agree (chainOf rate l c) (Room rate l c) (Sized rate l c) (chain-local rate l c) (framesOf (s .samples)) xs ys s (ready rate l c s xs a z) (orderly rate l c s xs z) (orderly rate l c s ys (clear rate l c s ys u)) n
+    ∙ sym (left-is rate l c s ys u)
+
+-- ---- whole frame after whole frame
+module _ (rate : ℕ) (l : List Stage) (c : ℕ) where
+  pub whole : (s : State Float Held) (order : List ℕ) → Finishing rate l c s order → Whole (chainOf rate l c) (framesOf (s .samples)) s order
+  whole s order f = record { fresh = f .fresh; finishes = record { accepted = f .orderly; done = f .done } }
+
+  pub finishing-taken : (s : State Float Held) (order : List ℕ) → ClearOn rate l c s [] → Finishing rate l c s order → Taken rate l c s order
+  finishing-taken s order z f = taken rate l c s order (clear-with rate l c s [] order z (f .orderly))
+
+pub whole-frames : WholeFrames
+whole-frames rate l c s order a t f =
+    let C = chainOf rate l c in
+    let F : ℕ = framesOf (s .samples) in
+    let z = clear rate l c s [] t in
+    let v = ready rate l c s [] a z in
+    let u = finishing-taken rate l c s order z f in
+    let r = frames-whole C (Room rate l c) (Sized rate l c) (chain-local rate l c) F s v (f .fresh) in
+    let row = taken rate l c s (frames (topsOf l c) F) (clear-with rate l c s [] (frames (topsOf l c) F) z (r .finishes .accepted)) in
+    let left = left-is rate l c s order u in (
+      u,
+      record {
+        taken = row;
+        same = left ∙ frame-by-frame C (Room rate l c) (Sized rate l c) (chain-local rate l c) F order s v (whole rate l c s order f) ∙ sym (left-is rate l c s (frames (topsOf l c) F) row);
+        renders = ap (from 0) left ∙ order-renders C (Room rate l c) (Sized rate l c) (chain-local rate l c) F order s v (whole rate l c s order f);
+      },
+    )

@@ -1,0 +1,164 @@
+-- A step of a top stage, as the code takes it: where its stretches lie, and that what the code leaves is the step. Assumes nothing.
+use mathlib.Core.Path.{_≡_, refl, ap, _∙_}
+use mathlib.Core.List.{List, [], _∷_, _++_}
+use Prim.Native.Nat.{ℕ, zero, suc, _+_, _*_, _-_, _≤_, _<_}
+use native.Mathlib.Omega.{arith}
+use native.Mathlib.Numerals.{add-one}
+use lib.Ieee.{Float, nan}
+use lib.ListN.{length, getD, set, take, drop}
+use lib.Seq.{getD-take, getD-drop}
+use Rattle.frame.specs.declared.Frame.{Frame}
+use Rattle.line.specs.Held.{Held, holds, Ran, ran}
+use Rattle.order.specs.Stretch.{part, splice}
+use Rattle.order.specs.Chain.{State, at, step, put, out}
+use Rattle.stage.specs.declared.kind.Stage.{Stage}
+use Rattle.stage.specs.Layout.{startOf, startsOf}
+use Rattle.stage.proofs.Starts.{starts-at, start-le}
+use Rattle.step.specs.Step.{placeOf}
+use Rattle.refuse.specs.Tops.{topAt, topsRecord}
+use Rattle.refuse.proofs.TopStages.{places-at, top-past, top-le, tops-le-16}
+use Rattle.chain.specs.Chain.{stretch, replaced, frameOf, state, Ready, May, stepped}
+
+-- ---- where top stage k lies: at the places from i up to e, its lines from a up to b
+
+module _ (rate : ℕ) (l : List Stage) (c k : ℕ) (starts places : List ℕ) (s : State Float Held) where
+  abbrev pub i : ℕ
+  i = getD places k 0
+
+  abbrev pub e : ℕ
+  e = getD places (k + 1) 0
+
+  pub record Located : Type 0 where
+    pub known : k < 16
+    pub i-is : i ≡ topAt l c k
+    pub e-is : e ≡ topAt l c (suc k)
+    pub some : i < e
+    pub inside : e ≤ 16
+    pub a-is : getD starts i 0 ≡ startOf rate l i
+    pub b-is : getD starts e 0 ≡ startOf rate l e
+    pub starts-is : starts ≡ startsOf rate l
+    pub lines : getD starts i 0 ≤ getD starts e 0
+    pub in-store : getD starts e 0 ≤ length (s .held .store)
+    pub in-positions : 24 * e ≤ length (s .held .positions)
+    pub in-floats : 20 * e ≤ length (s .held .floats)
+    pub in-samples : 2 * at s k + 2 ≤ length (s .samples)
+
+pub located : (rate : ℕ) (l : List Stage) (c k : ℕ) (starts places : List ℕ) (s : State Float Held) → c ≤ 16 → starts ≡ startsOf rate l → places ≡ topsRecord l c .places
+    → Ready rate l c s → May rate l c s k → Located rate l c k starts places s
+unfolding topsRecord
+located rate l c k starts places s h p q r m = record {
+  known = omega (arith, tops-le-16 l c);
+  i-is = i-is;
+  e-is = e-is;
+  some = omega (arith, i-is, e-is, top-past l c k (m .inside));
+  inside = e16;
+  a-is = a-is;
+  b-is = b-is;
+  starts-is = p;
+  lines = omega (arith, a-is, b-is, start-le rate l i₀ e₀ ie);
+  in-store = omega (arith, b-is, start-le rate l e₀ c ec, r .held .store);
+  in-positions = omega (arith, ec, r .held .positions);
+  in-floats = omega (arith, ec, r .held .floats);
+  in-samples = omega (arith, r .samples, m .room);
+}
+  where
+    i₀ : ℕ
+    i₀ = getD places k 0
+
+    e₀ : ℕ
+    e₀ = getD places (k + 1) 0
+
+    i-is : i₀ ≡ topAt l c k
+    i-is = rw q (places-at l c k (omega (arith, m .inside)))
+
+    e-is : e₀ ≡ topAt l c (suc k)
+    e-is = rw q (places-at l c (k + 1) (omega (arith, m .inside)) ∙ ap (topAt l c) (add-one k))
+
+    ec : e₀ ≤ c
+    ec = omega (arith, e-is, top-le l c (suc k))
+
+    ie : i₀ ≤ e₀
+    ie = omega (arith, i-is, e-is, top-past l c k (m .inside))
+
+    e16 : e₀ ≤ 16
+    e16 = omega (arith, ec)
+
+    a-is : getD starts i₀ 0 ≡ startOf rate l i₀
+    a-is = rw p (starts-at rate l i₀ (omega (arith, ie, e16)))
+
+    b-is : getD starts e₀ 0 ≡ startOf rate l e₀
+    b-is = rw p (starts-at rate l e₀ e16)
+
+-- ---- the stretches of one top stage, lent and back
+
+abbrev pub mid : {A : Type 0} → ℕ → ℕ → List A → List A → List A
+mid a b ys xs = take a xs ++ (ys ++ drop (b - a) (drop a xs))
+
+mid-is : {A : Type 0} (a b : ℕ) (ys xs : List A) → length ys ≡ b - a → mid a b ys xs ≡ splice a ys xs
+mid-is a b ys xs p = rw p
+
+module _ (rate : ℕ) (l : List Stage) (i e a b : ℕ) (p : a ≡ startOf rate l i) (q : b ≡ startOf rate l e) (st fl : List Float) (po : List ℕ) where
+  lent : holds (part a (b - a) st) (part (24 * i) (24 * e - 24 * i) po) (part (20 * i) (20 * e - 20 * i) fl) ≡ stretch rate l i e (holds st po fl)
+  unfolding stretch
+  lent = rw (p, q)
+
+  back : (m : Held) → length (m .store) ≡ b - a → length (m .positions) ≡ 24 * e - 24 * i → length (m .floats) ≡ 20 * e - 20 * i
+      → holds (mid a b (m .store) st) (mid (24 * i) (24 * e) (m .positions) po) (mid (20 * i) (20 * e) (m .floats) fl) ≡ replaced rate l i m (holds st po fl)
+  unfolding replaced
+  back m u v w =
+      rw (mid-is a b (m .store) st u, mid-is (24 * i) (24 * e) (m .positions) po v, mid-is (20 * i) (20 * e) (m .floats) fl w, p)
+
+-- ---- a frame of the samples, read and written
+
+pair-in : {A : Type 0} (f : ℕ) (u v : A) (xs : List A) → f + 2 ≤ length xs → set (set xs f u) (suc f) v ≡ splice f (u ∷ (v ∷ [])) xs
+pair-in zero u v [] h = absurd (omega arith)
+pair-in zero u v (x ∷ []) h = absurd (omega arith)
+pair-in zero u v (x ∷ (y ∷ xs)) h = refl
+pair-in (suc f) u v [] h = absurd (omega arith)
+pair-in {A} (suc f) u v (x ∷ xs) h = ap {B = List A} (λ r. x ∷ r) (pair-in f u v xs (omega arith))
+
+frame-out : (f : ℕ) (xs : List Float) → frameOf (part f 2 xs) ≡ record { left = getD xs f nan; right = getD xs (f + 1) nan }
+frame-out f xs = λ t. record { left = x t; right = y t }
+  where
+    x : getD (part f 2 xs) 0 nan ≡ getD xs f nan
+    x = getD-take 2 (drop f xs) 0 nan (omega arith) ∙ getD-drop f xs 0 nan ∙ ap (λ n. getD xs n nan) (omega arith)
+
+    y : getD (part f 2 xs) 1 nan ≡ getD xs (f + 1) nan
+    y = getD-take 2 (drop f xs) 1 nan (omega arith) ∙ getD-drop f xs 1 nan
+
+-- ---- the whole step
+
+module _ (rate : ℕ) (l : List Stage) (c k : ℕ) (xs st fl : List Float) (po pr : List ℕ) where
+  abbrev d : ℕ
+  d = getD pr k 0
+
+  -- what top stage k makes of its next frame and of what it holds
+  abbrev made : Ran
+  made = placeOf rate l (startsOf rate l) (topAt l c k) (topAt l c (suc k)) (ran (frameOf (part (d * 2) 2 xs)) (stretch rate l (topAt l c k) (topAt l c (suc k)) (holds st po fl)))
+
+  -- frame d, and what the code lends, made into y and m
+  module _ (starts : List ℕ) (i e a b f : ℕ) (y : Frame) (m : Held) where
+    abbrev lent-to : Ran
+    lent-to = ran (record { left = getD xs f nan; right = getD xs (f + 1) nan }) (holds (part a (b - a) st) (part (24 * i) (24 * e - 24 * i) po) (part (20 * i) (20 * e - 20 * i) fl))
+
+    pub advance-is : i ≡ topAt l c k → e ≡ topAt l c (suc k) → a ≡ startOf rate l i → b ≡ startOf rate l e → starts ≡ startsOf rate l → f ≡ d * 2
+        → f + 2 ≤ length xs → length (m .store) ≡ b - a → length (m .positions) ≡ 24 * e - 24 * i → length (m .floats) ≡ 20 * e - 20 * i
+        → ran y m ≡ placeOf rate l starts i e lent-to
+        → state (set (set xs f (y .left)) (f + 1) (y .right)) (mid a b (m .store) st) (mid (24 * i) (24 * e) (m .positions) po) (mid (20 * i) (20 * e) (m .floats) fl) (set pr k (d + 1))
+        ≡ stepped rate l c k (state xs st po fl pr)
+    unfolding step put out
+    advance-is is es p q ss fs h u v w r =
+        λ t. record {
+          samples = (one ∙ ap (λ (r : Ran). splice (d * 2) (r .frame .left ∷ (r .frame .right ∷ [])) xs) same) t;
+          held = (back rate l i e a b p q st fl po m u v w ∙ two) t;
+          progress = set pr k (add-one d t);
+        }
+      where
+        same : ran y m ≡ made
+        same = r ∙ rw (lent rate l i e a b p q st fl po, ← frame-out f xs, ss, fs, is, es)
+
+        one : set (set xs f (y .left)) (f + 1) (y .right) ≡ splice (d * 2) (y .left ∷ (y .right ∷ [])) xs
+        one = rw (add-one f, pair-in f (y .left) (y .right) xs h, fs)
+
+        two : replaced rate l i m (holds st po fl) ≡ replaced rate l (topAt l c k) (made .held) (holds st po fl)
+        two = rw is (ap (λ (r : Ran). replaced rate l (topAt l c k) (r .held) (holds st po fl)) same)

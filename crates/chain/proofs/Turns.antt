@@ -1,0 +1,130 @@
+-- The loops that run an order: what holds at each turn. Assumes nothing.
+use mathlib.Core.Path.{_≡_, refl, sym, _∙_}
+use mathlib.Core.Logic.{_≢_}
+use mathlib.Core.List.{List, _∷_, _++_}
+use Prim.Native.Nat.{ℕ, zero, suc, _+_, _-_, _≤_, _<_}
+use native.Mathlib.Omega.{arith}
+use native.Mathlib.Numerals.{add-one}
+use lib.Ieee.{Float}
+use lib.ListN.{length, getD, drop, replicate, drop-of-length-le}
+use lib.Seq.{drop-cons}
+use Rattle.line.specs.Held.{Held}
+use Rattle.order.specs.Order.{count, run, Accepted}
+use Rattle.order.specs.Chain.{State, at, step, Ok, Inv}
+use Rattle.order.specs.Claims.{Stepped, Kept}
+use Rattle.order.specs.Finish.{finishing-from, finishing}
+use Rattle.order.proofs.Orders.{hit-other, run-append, accepted-prefix, accepted-suffix}
+use Rattle.order.proofs.OneStep.{one-step}
+use Rattle.order.proofs.Keeps.{run-keeps}
+use Rattle.order.proofs.Finishing.{finishing-finishes}
+use Rattle.stage.specs.declared.kind.Stage.{Stage}
+use Rattle.refuse.specs.Tops.{topsOf}
+use Rattle.chain.specs.Chain.{chainOf, Room, framesOf, Ready, May, Orderly, stepped, ordered}
+use Rattle.chain.proofs.ChainLocal.{Sized, chain-local}
+
+-- of an order from s₀ on, xs is left at s
+pub record Left (rate : ℕ) (l : List Stage) (c : ℕ) (s₀ : State Float Held) (order : List ℕ) (s : State Float Held) (xs : List ℕ) : Type 0 where
+  pub ready : Inv (chainOf rate l c) (Room rate l c) (framesOf (s₀ .samples)) s
+  pub orderly : Accepted (step (chainOf rate l c)) (Ok (chainOf rate l c) (framesOf (s₀ .samples))) s xs
+  pub same : ordered rate l c s xs ≡ ordered rate l c s₀ order
+  pub long : length (s .samples) ≡ length (s₀ .samples)
+
+-- of the order that brings every top stage to the last frame, what is left is of the stages from k on, which are where they were
+pub record Finished (rate : ℕ) (l : List Stage) (c : ℕ) (s₀ : State Float Held) (k : ℕ) (s : State Float Held) : Type 0 where
+  pub left : Left rate l c s₀ (finishing (topsOf l c) (framesOf (s₀ .samples)) (s₀ .progress)) s (finishing-from k (topsOf l c - k) (framesOf (s₀ .samples)) (s₀ .progress))
+  pub rest : (j : ℕ) → k ≤ j → at s j ≡ at s₀ j
+
+pub left-first : {rate : ℕ} {l : List Stage} {c : ℕ} {s₀ : State Float Held} {order : List ℕ} → Ready rate l c s₀ → Orderly rate l c s₀ order → Left rate l c s₀ order s₀ order
+left-first r o = record { ready = r; orderly = o; same = refl; long = refl }
+
+module _ {rate : ℕ} {l : List Stage} {c : ℕ} {s₀ : State Float Held} {order : List ℕ} {s : State Float Held} where
+  -- ---- an order of which some is left
+  pub left-ready : {xs : List ℕ} → Left rate l c s₀ order s xs → Ready rate l c s
+  left-ready t = rw (t .long) (t .ready)
+
+  pub left-may : {k : ℕ} {xs : List ℕ} → Left rate l c s₀ order s (k ∷ xs) → May rate l c s k
+  left-may t = rw (t .long) (t .orderly .0)
+
+  one : {k : ℕ} {xs : List ℕ} → Left rate l c s₀ order s (k ∷ xs) → Stepped (chainOf rate l c) (Room rate l c) (framesOf (s₀ .samples)) k s (stepped rate l c k s)
+  one {k} t = one-step (chainOf rate l c) (Room rate l c) (Sized rate l c) (chain-local rate l c) (framesOf (s₀ .samples)) s k (t .ready) (t .orderly .0)
+
+  pub left-next : {k : ℕ} {xs : List ℕ} {z : State Float Held} → Left rate l c s₀ order s (k ∷ xs) → z ≡ stepped rate l c k s → Left rate l c s₀ order z xs
+  left-next t e = let o = one t in rw e (record { ready = o .inv; orderly = t .orderly .1; same = t .same; long = o .samples ∙ t .long })
+
+  some : (xs ys : List ℕ) → Left rate l c s₀ order s (xs ++ ys) → Kept (chainOf rate l c) (Room rate l c) (framesOf (s₀ .samples)) xs s (ordered rate l c s xs)
+  some xs ys t =
+      run-keeps (chainOf rate l c) (Room rate l c) (Sized rate l c) (chain-local rate l c) (framesOf (s₀ .samples)) xs s (t .ready)
+      (accepted-prefix (step (chainOf rate l c)) (Ok (chainOf rate l c) (framesOf (s₀ .samples))) xs ys s (t .orderly))
+
+  -- ---- an order, entry by entry
+  pub all-turn : (at : ℕ) → at < length order → Left rate l c s₀ order s (drop at order) → Left rate l c s₀ order s (getD order at 0 ∷ drop (at + 1) order)
+  all-turn at h t = rw (drop-cons order at 0 h, ← add-one at) at t
+
+  pub all-last : (at : ℕ) → length order ≤ at → Left rate l c s₀ order s (drop at order) → s ≡ ordered rate l c s₀ order
+  all-last at h t = (rw (drop-of-length-le order h) at t) .same
+
+  -- ---- one top stage, to the last frame
+  module _ (k : ℕ) where
+    pub end-turn : at s k < framesOf (s₀ .samples) → Left rate l c s₀ order s (replicate (framesOf (s₀ .samples) - at s k) k) → Left rate l c s₀ order s (k ∷ replicate (framesOf (s₀ .samples) - suc (at s k)) k)
+    end-turn h t = let e : framesOf (s₀ .samples) - at s k ≡ suc (framesOf (s₀ .samples) - suc (at s k)) = omega arith in rw e at t
+
+    module _ {z : State Float Held} (h : at s k < framesOf (s₀ .samples)) (t : Left rate l c s₀ order s (replicate (framesOf (s₀ .samples) - at s k) k)) (e : z ≡ stepped rate l c k s) where
+      pub end-moved : at z k ≡ suc (at s k)
+      end-moved = rw e (one (end-turn h t) .moved)
+
+      pub end-next : Left rate l c s₀ order z (replicate (framesOf (s₀ .samples) - at z k) k)
+      end-next = rw end-moved (left-next (end-turn h t) e)
+
+    pub end-last : framesOf (s₀ .samples) ≤ at s k → Left rate l c s₀ order s (replicate (framesOf (s₀ .samples) - at s k) k) → s ≡ ordered rate l c s₀ order
+    end-last h t = let e : framesOf (s₀ .samples) - at s k ≡ 0 = omega arith in (rw e at t) .same
+
+-- ---- every top stage, to the last frame
+
+others-none : (j k d : ℕ) → j ≢ k → count j (replicate d k) ≡ 0
+unfolding count
+others-none j k zero h = refl
+others-none j k (suc d) h = omega (arith, hit-other j k h, others-none j k d h)
+
+pub finish-first : {rate : ℕ} {l : List Stage} {c : ℕ} {s₀ : State Float Held} → Ready rate l c s₀ → Finished rate l c s₀ 0 s₀
+finish-first {rate} {l} {c} {s₀} r = record {
+  left = let e : topsOf l c - 0 ≡ topsOf l c = omega arith in rw e (left-first r (finishing-finishes (chainOf rate l c) (Room rate l c) (Sized rate l c) (chain-local rate l c) (framesOf (s₀ .samples)) s₀ r .accepted));
+  rest = λ j h. refl;
+}
+
+module _ {rate : ℕ} {l : List Stage} {c : ℕ} {s₀ : State Float Held} {k : ℕ} {s : State Float Held} (t : Finished rate l c s₀ k s) where
+  module _ (h : k < topsOf l c) where
+    -- what is left is of stage k, and then of others
+    abbrev mine : List ℕ
+    mine = replicate (framesOf (s .samples) - at s k) k
+
+    abbrev others : List ℕ
+    others = finishing-from (k + 1) (topsOf l c - (k + 1)) (framesOf (s₀ .samples)) (s₀ .progress)
+
+    finish-turn : Left rate l c s₀ (finishing (topsOf l c) (framesOf (s₀ .samples)) (s₀ .progress)) s (mine ++ others)
+    unfolding finishing-from
+    finish-turn =
+        let e : topsOf l c - k ≡ suc (topsOf l c - suc k) = omega arith in
+        rw (t .left .long, t .rest k (omega arith), add-one k) (rw e at (t .left))
+
+    pub finish-orderly : Orderly rate l c s mine
+    finish-orderly =
+        let a = accepted-prefix (step (chainOf rate l c)) (Ok (chainOf rate l c) (framesOf (s₀ .samples))) mine others s (finish-turn .orderly) in
+        rw (t .left .long) (rw (t .left .long) at a)
+
+    pub finish-next : {z : State Float Held} → z ≡ ordered rate l c s mine → Finished rate l c s₀ (k + 1) z
+    finish-next e =
+        let C = chainOf rate l c in
+        let o = some mine others finish-turn in
+        rw e (record {
+          left = record {
+            ready = o .inv;
+            orderly = accepted-suffix (step C) (Ok C (framesOf (s₀ .samples))) mine others s (finish-turn .orderly);
+            same = sym (run-append (step C) mine others s) ∙ finish-turn .same;
+            long = o .samples ∙ t .left .long;
+          };
+          rest = λ j g. omega (arith, o .moved j, others-none j k (framesOf (s .samples) - at s k) (omega arith), t .rest j (omega arith));
+        })
+
+  pub finish-last : topsOf l c ≤ k → s ≡ ordered rate l c s₀ (finishing (topsOf l c) (framesOf (s₀ .samples)) (s₀ .progress))
+  unfolding finishing-from
+  finish-last h = let e : topsOf l c - k ≡ 0 = omega arith in (rw e at (t .left)) .same

@@ -1,0 +1,13 @@
+use mathlib.Core.Path.{refl}
+use lib.Ieee.{ofBits, round}
+use Rattle.float.specs.Literal.{literal}
+use Rattle.chain.specs.Memories.{zeroMemories}
+use Rattle.chain.proofs.memories.zero.Statement.{statement}
+use Rattle.chain.proofs.memories.zero.Tie as tie
+
+returns : tie.Need-returns
+unfolding zeroMemories literal round ofBits
+returns c = refl
+
+pub zero-spec : {M : Type 1} → statement M
+zero-spec = tie.close (tie.spec returns)

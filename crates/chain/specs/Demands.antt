@@ -1,0 +1,101 @@
+-- Demands 2 and 3 of the user, sentence by sentence, about what `run` answers and leaves. Definitions only; the crate `demands` closes each by name.
+use mathlib.Core.Path.{_≡_}
+use mathlib.Core.Logic.{_≢_}
+use mathlib.Core.Bool.{true}
+use mathlib.Core.List.{List, [], _∷_, _++_}
+use Prim.Native.Nat.{ℕ, suc, _+_, _*_, _≤_, _<_}
+use lib.Ieee.{Float}
+use lib.ListN.{length, drop}
+use Rattle.line.specs.Held.{Held}
+use Rattle.order.specs.Stretch.{part}
+use Rattle.order.specs.Order.{count}
+use Rattle.order.specs.Chain.{State, at, out}
+use Rattle.order.specs.Render.{frames, from, render}
+use Rattle.order.specs.Claims.{begin, Cut}
+use Rattle.stage.specs.declared.kind.Stage.{Stage}
+use Rattle.refuse.specs.Answer.{acceptedOf}
+use Rattle.refuse.specs.Tops.{topAt, topsOf}
+use Rattle.chain.specs.Chain.{chainOf, framesOf, stretch, replaced, stepped, Orderly, ordered}
+use Rattle.chain.specs.Run.{answerOn, leftOf}
+
+-- the arrays have the lengths that their types say
+pub record Arrays (s : State Float Held) : Type 0 where
+  pub positions : length (s .held .positions) ≡ 384
+  pub floats : length (s .held .floats) ≡ 320
+  pub progress : length (s .progress) ≡ 16
+
+module _ (rate : ℕ) (l : List Stage) (c : ℕ) where
+  -- the order is accepted
+  abbrev pub Taken : State Float Held → List ℕ → Type 0
+  Taken s order = acceptedOf (answerOn rate l c s order) ≡ true
+
+  -- every top stage has run so many frames
+  abbrev pub AllAt : ℕ → State Float Held → Type 0
+  AllAt frame s = (k : ℕ) → k < topsOf l c → at s k ≡ frame
+
+  -- by the rule of refusal 11 alone, the order brings every top stage from nothing to the last frame
+  pub record Finishing (s : State Float Held) (order : List ℕ) : Type 0 where
+    pub fresh : AllAt 0 s
+    pub orderly : Orderly rate l c s order
+    pub done : AllAt (framesOf (s .samples)) (ordered rate l c s order)
+
+  -- ---- Demand 2: "each accepted step gives the Rust's bits": an accepted order is its single steps, one after another, each being the step of the definitions
+
+  pub record SingleSteps (s : State Float Held) (k : ℕ) (order : List ℕ) : Type 0 where
+    -- the first entry alone is accepted, and so are the others after it
+    pub first : Taken s (k ∷ [])
+    pub others : Taken (leftOf rate l c s (k ∷ [])) order
+    pub same : leftOf rate l c s (k ∷ order) ≡ leftOf rate l c (leftOf rate l c s (k ∷ [])) order
+    -- and the first is a step of top stage k
+    pub step-is : leftOf rate l c s (k ∷ []) ≡ stepped rate l c k s
+
+  -- ---- Demand 3: "a step runs one stage on its next frame, never ahead of the stage before it"
+
+  pub record OneStep (k : ℕ) (s z : State Float Held) : Type 0 where
+    -- of the samples only the frame at k's progress changes
+    pub before : (a n : ℕ) → a + n ≤ at s k * 2 → part a n (z .samples) ≡ part a n (s .samples)
+    pub after : drop (suc (at s k) * 2) (z .samples) ≡ drop (suc (at s k) * 2) (s .samples)
+    -- of the lines and memories only the stretch of stage k and of the stages that it owns
+    pub held : z .held ≡ replaced rate l (topAt l c k) (out (chainOf rate l c) k s .held) (s .held)
+    -- its progress is one more, and every other as it was
+    pub moved : at z k ≡ suc (at s k)
+    pub others : (j : ℕ) → j ≢ k → at z j ≡ at s j
+    -- and no stage is ahead of one before it
+    pub falls : (a b : ℕ) → a ≤ b → b < topsOf l c → at z b ≤ at z a
+
+-- an accepted order of one entry or more
+abbrev pub StepByStep : Type 0
+StepByStep = (rate : ℕ) (l : List Stage) (c : ℕ) (s : State Float Held) (k : ℕ) (order : List ℕ) → Arrays s → Taken rate l c s (k ∷ order) → SingleSteps rate l c s k order
+
+abbrev pub StepsKeepApart : Type 0
+StepsKeepApart = (rate : ℕ) (l : List Stage) (c : ℕ) (s : State Float Held) (k : ℕ) → Arrays s → Taken rate l c s (k ∷ []) → OneStep rate l c k s (leftOf rate l c s (k ∷ []))
+
+-- "from equal rate, settings, samples, lines, memories and progress, any two accepted orders that name each stage equally often leave all of these equal"
+abbrev pub AnyOrder : Type 0
+AnyOrder = (rate : ℕ) (l : List Stage) (c : ℕ) (s : State Float Held) (xs ys : List ℕ) → Arrays s → Taken rate l c s xs → Taken rate l c s ys
+    → ((k : ℕ) → k < topsOf l c → count k xs ≡ count k ys) → leftOf rate l c s xs ≡ leftOf rate l c s ys
+
+-- "an order that brings every stage from nothing to the last frame leaves what demand 2's rendering, whole frame after whole frame, leaves": that is an accepted order too, and the samples, lines and memories are those of `render`, which takes one frame through all stages and then the next
+pub record FrameAfterFrame (rate : ℕ) (l : List Stage) (c : ℕ) (s : State Float Held) (order : List ℕ) : Type 0 where
+  pub taken : Taken rate l c s (frames (topsOf l c) (framesOf (s .samples)))
+  pub same : leftOf rate l c s order ≡ leftOf rate l c s (frames (topsOf l c) (framesOf (s .samples)))
+  pub renders : from 0 (leftOf rate l c s order) ≡ render (chainOf rate l c) (framesOf (s .samples)) (from 0 s)
+
+abbrev pub WholeFrames : Type 0
+WholeFrames = (rate : ℕ) (l : List Stage) (c : ℕ) (s : State Float Held) (order : List ℕ) → Arrays s → Taken rate l c s [] → Finishing rate l c s order → Taken rate l c s order × FrameAfterFrame rate l c s order
+
+-- "cutting an accepted, unstarted block at any frame and running each part to its end leaves the output, lines and memories that running it whole to its end leaves"; that the parts are accepted is concluded
+pub record CutAt (rate : ℕ) (l : List Stage) (c : ℕ) (s s₁ s₂ : State Float Held) (whole first second : List ℕ) : Type 0 where
+  pub taken : Taken rate l c s whole
+  pub first-taken : Taken rate l c s₁ first
+  pub second-taken : Taken rate l c s₂ second
+  pub same : Cut (leftOf rate l c s whole) (leftOf rate l c s₁ first) (leftOf rate l c s₂ second)
+
+abbrev pub CutAnywhere : Type 0
+CutAnywhere = (rate : ℕ) (l : List Stage) (c n : ℕ) (xs ys : List Float) (h : Held) (p p₁ p₂ whole first second : List ℕ) → length xs ≡ n * 2
+    → Arrays (begin (xs ++ ys) h p) → length p₁ ≡ 16 → length p₂ ≡ 16
+    → Taken rate l c (begin (xs ++ ys) h p) []
+    → Finishing rate l c (begin (xs ++ ys) h p) whole
+    → Finishing rate l c (begin xs h p₁) first
+    → Finishing rate l c (begin ys (ordered rate l c (begin xs h p₁) first .held) p₂) second
+    → CutAt rate l c (begin (xs ++ ys) h p) (begin xs h p₁) (begin ys (leftOf rate l c (begin xs h p₁) first .held) p₂) whole first second

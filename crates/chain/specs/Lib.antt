@@ -1,0 +1,5 @@
+pub mod Memories
+pub mod Chain
+pub mod Run
+pub mod Start
+pub mod Demands

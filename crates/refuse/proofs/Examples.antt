@@ -1,0 +1,120 @@
+-- The edges of document 01's table of refusals, and its P13, worked out by antt on the definition that the contracts cite. Assumes nothing.
+use mathlib.Core.Path.{_≡_, refl}
+use mathlib.Core.Bool.{false}
+use mathlib.Core.List.{List, [], _∷_}
+use Prim.Native.Nat.{ℕ}
+use native.Mathlib.Omega.{arith}
+use borrow.Author.Tests.{lt-ltb, le-ltb}
+use lib.IntN.{pos}
+use lib.ListN.{length, replicate}
+use lib.Ieee.{Float, fin, le}
+use Rattle.float.specs.Literal.{literal}
+use Rattle.float.specs.Finite.{finiteOf}
+use Rattle.line.specs.Tuning.{reverbFloats, reverbLines}
+use Rattle.stage.specs.declared.kind.Stage.{Stage}
+use Rattle.stage.specs.declared.kind.Stage.the-variants.{VolumeControl, Reverb, Delay}
+use Rattle.stage.specs.First.{firstFrom}
+use Rattle.stage.specs.Kind.{ownedOf, nextOf}
+use Rattle.stage.specs.Range.{inRangeOf}
+use Rattle.stage.specs.Layout.{startOf}
+use Rattle.stage.specs.Lines.{lostOf}
+use Rattle.refuse.specs.Answer.{numberOf, placeOf}
+use Rattle.refuse.specs.Shape.{faultyOf}
+use Rattle.refuse.specs.Tops.{topsOf}
+use Rattle.refuse.specs.Refusals.{stuckOf, answerOf}
+
+-- what a call answers, as its number and place: of some stages and floats, from positions and progress of zero
+abbrev pub told : ℕ → List Stage → ℕ → List Float → List ℕ → List ℕ
+told rate l floats samples order =
+    let answer = answerOf rate l (length l) floats samples (replicate 384 0) (replicate 16 0) order in
+    numberOf answer ∷ placeOf answer ∷ []
+
+abbrev pub given : ℕ → ℕ → List ℕ
+given number place = number ∷ place ∷ []
+
+abbrev pub accepted : List ℕ
+accepted = given 0 0
+
+abbrev pub zero32 : Float
+zero32 = fin false 0 (pos 0)
+
+abbrev pub volume : Stage
+volume = VolumeControl (pos 0)
+
+abbrev pub reverb : Stage
+reverb = Reverb zero32 zero32 zero32 zero32
+
+abbrev pub delay : ℕ → ℕ → Stage
+delay frames owned = Delay frames (pos 0) zero32 owned
+
+-- ---- P13: "two stages, one frame: order 1,0 gives refusal 11 at 0; order 0,1,0 at 2; order 0,1 is taken"
+abbrev pub two : List ℕ → List ℕ
+two order = told 48000 (volume ∷ volume ∷ []) 0 (zero32 ∷ zero32 ∷ []) order
+
+pub p13-second-first : two (1 ∷ 0 ∷ []) ≡ given 11 0
+unfolding answerOf numberOf placeOf faultyOf ownedOf firstFrom inRangeOf startOf lostOf topsOf nextOf finiteOf stuckOf
+p13-second-first = refl
+
+pub p13-first-again : two (0 ∷ 1 ∷ 0 ∷ []) ≡ given 11 2
+unfolding answerOf numberOf placeOf faultyOf ownedOf firstFrom inRangeOf startOf lostOf topsOf nextOf finiteOf stuckOf
+p13-first-again = refl
+
+pub p13-taken : two (0 ∷ 1 ∷ []) ≡ accepted
+unfolding answerOf numberOf placeOf faultyOf ownedOf firstFrom inRangeOf startOf lostOf topsOf nextOf finiteOf stuckOf
+p13-taken = refl
+
+-- ---- "no stages, no frames and an empty order are all accepted"; with no stages any entry is refused
+abbrev pub none : ℕ → List ℕ → List ℕ
+none rate order = told rate [] 0 [] order
+
+pub none-accepted : none 48000 [] ≡ accepted
+unfolding answerOf numberOf placeOf firstFrom startOf topsOf stuckOf
+none-accepted = refl
+
+pub none-entry : (k : ℕ) (ks : List ℕ) → none 48000 (k ∷ ks) ≡ given 11 0
+unfolding answerOf numberOf placeOf firstFrom startOf topsOf stuckOf
+none-entry k ks = rw (le-ltb k 0 (omega arith), lt-ltb 0 (length (k ∷ ks)) (omega arith))
+
+-- ---- "rate 7,999 and 192,001 refused, 8,000 and 192,000 taken"
+pub rate-7999 : none 7999 [] ≡ given 1 0
+unfolding answerOf numberOf placeOf
+rate-7999 = refl
+
+pub rate-192001 : none 192001 [] ≡ given 1 0
+unfolding answerOf numberOf placeOf
+rate-192001 = refl
+
+pub rate-8000 : none 8000 [] ≡ accepted
+unfolding answerOf numberOf placeOf firstFrom startOf topsOf stuckOf
+rate-8000 = refl
+
+pub rate-192000 : none 192000 [] ≡ accepted
+unfolding answerOf numberOf placeOf firstFrom startOf topsOf stuckOf
+rate-192000 = refl
+
+-- ---- "one reverb at 44,100 needs 25,450 floats: 25,449 gives refusal 5 with place 25,450"
+pub reverb-25449 : told 44100 (reverb ∷ []) 25449 [] [] ≡ given 5 25450
+unfolding answerOf numberOf placeOf faultyOf ownedOf firstFrom inRangeOf literal le finiteOf startOf reverbFloats
+reverb-25449 = refl
+
+pub reverb-25450 : told 44100 (reverb ∷ []) 25450 [] [] ≡ accepted
+unfolding answerOf numberOf placeOf faultyOf ownedOf firstFrom inRangeOf literal le finiteOf startOf reverbFloats lostOf reverbLines topsOf nextOf stuckOf
+reverb-25450 = refl
+
+-- ---- a delay of a frame too many
+pub delay-480001 : told 44100 (delay 480001 0 ∷ []) 960002 [] [] ≡ given 4 0
+unfolding answerOf numberOf placeOf faultyOf ownedOf firstFrom inRangeOf
+delay-480001 = refl
+
+-- ---- a wrong shape: owned stages that no list can have; and a depth of 4, where 3 is taken
+pub owned-most : told 44100 (delay 1 18446744073709551615 ∷ []) 2 [] [] ≡ given 3 0
+unfolding answerOf numberOf placeOf faultyOf ownedOf firstFrom
+owned-most = refl
+
+pub depth-3 : told 44100 (delay 1 3 ∷ delay 1 2 ∷ delay 1 1 ∷ volume ∷ []) 6 [] [] ≡ accepted
+unfolding answerOf numberOf placeOf faultyOf ownedOf firstFrom inRangeOf startOf lostOf topsOf nextOf finiteOf stuckOf
+depth-3 = refl
+
+pub depth-4 : told 44100 (delay 1 4 ∷ delay 1 3 ∷ delay 1 2 ∷ delay 1 1 ∷ volume ∷ []) 8 [] [] ≡ given 3 4
+unfolding answerOf numberOf placeOf faultyOf ownedOf firstFrom
+depth-4 = refl

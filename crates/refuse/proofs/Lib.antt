@@ -1,0 +1,15 @@
+pub mod Bools
+pub mod Shapes
+pub mod Rows
+pub mod Chains
+pub mod TopStages
+pub mod Entries
+pub mod Blocks
+pub mod Parts
+pub mod Stucks
+pub mod Numbered
+pub mod Plain
+pub mod TableHolds
+pub mod Clears
+pub mod OneOutcome
+pub mod Examples

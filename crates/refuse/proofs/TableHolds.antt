@@ -1,0 +1,141 @@
+-- Demand 1: the answer is the table's, in plain logic. Each row tells its condition; the rest is the law of a numbered table. Assumes nothing.
+use mathlib.Core.Path.{_≡_, refl, ap, sym, _∙_}
+use mathlib.Core.Logic.{⊎-elim}
+use mathlib.Core.Bool.{Bool, true, false}
+use mathlib.Core.List.{List, _++_}
+use Prim.Native.Nat.{ℕ, zero, suc, _+_, _/_, _%_, _≤_, _<_}
+use native.Mathlib.Omega.{arith}
+use native.Mathlib.Decide.{decLt}
+use lib.Dec.{ltb}
+use lib.ListN.{length}
+use lib.Ieee.{Float}
+use borrow.Author.Tests.{ltb-true, lt-ltb, eqb-true, eq-eqb}
+use Rattle.stage.specs.declared.kind.Stage.{Stage}
+use Rattle.stage.specs.First.{firstOf, some}
+use Rattle.stage.specs.Layout.{startOf}
+use Rattle.refuse.specs.declared.answer.Answer.{Answer}
+use Rattle.refuse.specs.declared.answer.Answer.the-variants.{Entry}
+use Rattle.refuse.specs.Answer.{numberOf, placeOf, acceptedOf}
+use Rattle.refuse.specs.Shape.{faultyOf}
+use Rattle.refuse.specs.Tops.{topsOf}
+use Rattle.refuse.specs.Refusals.{Row, row, outOfRange, lostAt, aheadAt, unrunFrom, badSample, stuckOf, chainRows, blockRows, answerOf}
+use Rattle.refuse.specs.Table.{First, Faulty, Outside, Lost, Ahead, BadSample, Stuck, conditions, Applies, Given, ByTheTable}
+use Rattle.refuse.proofs.Bools.{true-or-false}
+use Rattle.refuse.proofs.Stucks.{stuck-so, stuck-is}
+use Rattle.refuse.proofs.Plain.{first-hit, first-only, either-so, either-is, faulty-so, faulty-is, outside-so, outside-is, lost-so, lost-is, ahead-so, ahead-is, bad-so, bad-is}
+use Rattle.refuse.proofs.Numbered.{Tells, AllTell, Hits, hits, misses}
+
+-- ---- two kinds of rows: of a condition, with a place that is its own; and of the first place at which something is so
+module _ {k : ℕ} {answer : Answer} (number : numberOf answer ≡ k) (refusal : acceptedOf answer ≡ false) where
+  plain-row : {place : ℕ} {b : Bool} {P : Type 0} → placeOf answer ≡ place → (b ≡ true → P) → (P → b ≡ true) → Tells k (row b answer) (λ p. P × (p ≡ place))
+  plain-row e so is = record { number = number; refusal = refusal; so = λ h. (so h, e); only = λ p h. (is (h .0), e ∙ sym (h .1)) }
+
+  first-row : (t : ℕ → Bool) (P : ℕ → Type 0) → ((i : ℕ) → t i ≡ true → P i) → ((i : ℕ) → P i → t i ≡ true) → (n : ℕ) → placeOf answer ≡ firstOf t n → Tells k (row (some t n) answer) (λ p. First P n p)
+  first-row t P so is n e = record { number = number; refusal = refusal; so = λ h. rw e (first-hit t P so is n h); only = λ p h. let f = first-only t P so is n p h in (f .0, e ∙ f .1) }
+
+module _ (rate : ℕ) (l : List Stage) (c floats : ℕ) (samples : List Float) (positions progress order : List ℕ) where
+  abbrev frames : ℕ
+  frames = length samples / 2
+
+  abbrev tops : ℕ
+  tops = topsOf l c
+
+  abbrev bad : ℕ → Bool
+  bad = badSample (unrunFrom tops progress) samples
+
+  abbrev Bad : ℕ → Type 0
+  Bad = BadSample (unrunFrom tops progress) samples
+
+  abbrev stuck : ℕ
+  stuck = stuckOf tops frames progress order
+
+  abbrev answer : Answer
+  answer = answerOf rate l c floats samples positions progress order
+
+  abbrev rows : List Row
+  rows = chainRows rate l c floats ++ blockRows rate l c samples positions progress order
+
+  abbrev asks : List (ℕ → Type 0)
+  asks = conditions rate l c floats samples positions progress order
+
+  -- ---- row by row
+  stuck-row : Tells 11 (row (ltb stuck (length order)) (Entry stuck)) (Stuck tops frames progress order)
+  unfolding numberOf placeOf acceptedOf
+  stuck-row = record { number = refl; refusal = refl; so = λ h. stuck-so tops frames progress order (ltb-true stuck (length order) h); only = only }
+    where
+      only : (p : ℕ) → Stuck tops frames progress order p → (ltb stuck (length order) ≡ true) × (stuck ≡ p)
+      only p h = let e = stuck-is tops frames progress order p h in (lt-ltb stuck (length order) (omega (arith, h .inside)), e)
+
+  pub rows-tell : AllTell 1 rows asks
+  unfolding numberOf placeOf acceptedOf
+  rows-tell = (
+    plain-row refl refl refl (either-so rate 8000 192000 rate) (either-is rate 8000 192000 rate),
+    (
+      plain-row refl refl refl (ltb-true 16 c) (lt-ltb 16 c),
+      (
+        first-row refl refl (faultyOf l c) (Faulty l c) (faulty-so l c) (faulty-is l c) c refl,
+        (
+          first-row refl refl (outOfRange l) (Outside l) (outside-so l) (outside-is l) c refl,
+          (
+            plain-row refl refl refl (ltb-true floats (startOf rate l c)) (lt-ltb floats (startOf rate l c)),
+            (
+              first-row refl refl (lostAt rate l positions) (Lost rate l positions) (lost-so rate l positions) (lost-is rate l positions) c refl,
+              (
+                plain-row refl refl refl (eqb-true (length samples % 2) 1) (eq-eqb (length samples % 2) 1),
+                (
+                  plain-row refl refl refl (ltb-true 4096 frames) (lt-ltb 4096 frames),
+                  (
+                    first-row refl refl (aheadAt frames progress) (Ahead frames progress) (ahead-so frames progress) (ahead-is frames progress) tops refl,
+                    (
+                      first-row refl refl bad Bad (bad-so (unrunFrom tops progress) samples) (bad-is (unrunFrom tops progress) samples) (length samples) refl,
+                      (stuck-row, tt),
+                    ),
+                  ),
+                ),
+              ),
+            ),
+          ),
+        ),
+      ),
+    ),
+  )
+
+  -- ---- the table
+  abbrev Held : ℕ → ℕ → Type 0
+  Held = Applies rate l c floats samples positions progress order
+
+  none : acceptedOf answer ≡ true → (n p : ℕ) → Held n p → ⊥
+  unfolding answerOf
+  none h zero p q = q
+  none h (suc n) p q = misses 1 rows asks rows-tell h n p q
+
+  hit : acceptedOf answer ≡ false → Hits 1 asks answer
+  unfolding answerOf
+  hit h = hits 1 rows asks rows-tell h
+
+  module _ (x : Hits 1 asks answer) where
+    given : Given rate l c floats samples positions progress order (suc (x .n)) (placeOf answer)
+    given = record { applies = x .holds; first = first }
+      where
+        first : (n p : ℕ) → n < suc (x .n) → Held n p → ⊥
+        first zero p g q = q
+        first (suc n) p g q = x .first n p (omega arith) q
+
+    number-is : numberOf answer ≡ suc (x .n)
+    number-is = omega (arith, x .number)
+
+    same : (n p : ℕ) → Given rate l c floats samples positions progress order n p → (numberOf answer ≡ n) × (placeOf answer ≡ p)
+    same zero p g = absurd (g .applies)
+    same (suc n) p g = go (decLt n (x .n)) (decLt (x .n) n)
+      where
+        go : Dec (n < x .n) → Dec (x .n < n) → (numberOf answer ≡ suc n) × (placeOf answer ≡ p)
+        go (yes h) k = absurd (x .first n p h (g .applies))
+        go (no h) (yes k) = absurd (g .first (suc (x .n)) (placeOf answer) (omega arith) (x .holds))
+        go (no h) (no k) = let e : n ≡ x .n = omega arith in (number-is ∙ ap suc (sym e), x .only p (rw e at (g .applies)))
+
+  pub by-the-table : ByTheTable rate l c floats samples positions progress order answer
+  by-the-table = record {
+    accepted = none;
+    refused = λ h. rw (number-is (hit h)) (given (hit h));
+    exactly = λ n p g. ⊎-elim (λ h. absurd (none h n p (g .applies))) (λ h. same (hit h) n p g) (true-or-false (acceptedOf answer));
+  }

@@ -1,0 +1,96 @@
+-- `tops::tops_of` meets its contract. The loop's invariant: `i` is the place of top stage n, of which there are at least n, and the entries up to n are written. The measure is what is left of the stages. Assumes nothing.
+use mathlib.Core.Path.{_≡_, refl, ap, sym, _∙_}
+use mathlib.Core.Logic.{⊎-elim}
+use Prim.Native.Nat.{_-_, _≤_, _<_, min}
+use native.Mathlib.Omega.{arith}
+use lib.ListN.{getD-replicate}
+use borrow.Author.Needs.{needs}
+use Rattle.refuse.specs.Tops.{topAt, topsOf, topsRecord}
+use Rattle.refuse.proofs.TopStages.{top-zero, top-more, tops-more, tops-are, Written, written-more, written-all}
+use Rattle.refuse.proofs.tops.tops_of.Statement.{statement}
+use Rattle.refuse.proofs.tops.tops_of.Tie as tie
+
+abbrev Inv-loop : tie.InvT-loop
+Inv-loop count stages end places₀ n₀ i₀ places n i =
+    (end ≡ min count 16) × (i ≤ end) × (n ≤ i) × (n ≤ topsOf stages end) × (i ≡ topAt stages end n) × Written stages end n places
+
+abbrev μ-loop : tie.MeasureT-loop
+μ-loop count stages end places₀ n₀ i₀ places n i = end - i
+
+loop-holds : tie.Need-loop-holds Inv-loop μ-loop
+loop-holds c =
+    let end = c .if1 .end in
+    let l = c .before .args .t1 in (
+      ⊎-elim (λ w. omega arith) (λ w. omega arith) (c .if1 .came),
+      omega arith,
+      omega arith,
+      omega arith,
+      sym (top-zero l end),
+      record {
+        full = refl;
+        stands = λ k h. let e : k ≡ 0 = omega arith in rw e (sym (top-zero l end));
+        beyond = λ k h g. getD-replicate 17 k 0 0 h;
+      },
+    )
+
+mul-stage : tie.Need-mul-stage Inv-loop μ-loop
+mul-stage c = search needs
+
+array-copy-out-stage : tie.Need-array-copy-out-stage Inv-loop μ-loop
+array-copy-out-stage c = search needs
+
+next-place-requires : tie.Need-next-place-requires Inv-loop μ-loop
+next-place-requires c κs = search needs
+
+add-n : tie.Need-add-n Inv-loop μ-loop
+add-n c = search needs
+
+mul-places : tie.Need-mul-places Inv-loop μ-loop
+mul-places c = search needs
+
+array-write-places : tie.Need-array-write-places Inv-loop μ-loop
+array-write-places c = search needs
+
+loop-less : tie.Need-loop-less Inv-loop μ-loop
+loop-less c = omega (arith, c .next-place .ensures .2 (omega arith))
+
+loop-again : tie.Need-loop-again Inv-loop μ-loop
+loop-again c =
+    let l = c .before .before .before .before .before .args .t1 in
+    let end = c .before .before .before .before .if1 .end in
+    let at = c .before .before .before .loop in
+    let here = at .inv .4 in
+    let next = c .next-place .ensures .0 ∙ top-more l end (at .n) (at .i) here in
+    let more : at .n < topsOf l end = tops-more l end (at .n) (omega arith) (at .inv .3) (omega arith) in (
+      at .inv .0,
+      c .next-place .ensures .1,
+      omega (arith, c .next-place .ensures .2 (omega arith)),
+      omega arith,
+      next,
+      written-more l end (at .n) _ (at .places) (omega arith) (at .inv .5) next,
+    )
+
+returns : tie.Need-returns Inv-loop μ-loop
+returns c =
+    let l = c .before .before .before .args .t1 in
+    let end = c .before .before .if1 .end in
+    let at = c .before .loop in
+    let all : at .n ≡ topsOf l end = tops-are l end (at .n) (at .inv .3) (omega arith) in
+    written-all l end (at .n) (at .places) (at .inv .5) all ∙ ap (topsRecord l) (at .inv .0)
+
+pub tops-of-spec : {M : Type 1} → statement M
+tops-of-spec =
+    tie.close
+    (tie.spec
+    Inv-loop
+    μ-loop
+    loop-holds
+    mul-stage
+    array-copy-out-stage
+    next-place-requires
+    add-n
+    mul-places
+    array-write-places
+    loop-less
+    loop-again
+    returns)

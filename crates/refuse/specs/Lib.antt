@@ -1,0 +1,5 @@
+pub mod Answer
+pub mod Shape
+pub mod Tops
+pub mod Refusals
+pub mod Table

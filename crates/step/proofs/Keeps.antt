@@ -1,0 +1,78 @@
+-- What a step leaves of the store, of the positions and of the floats is as long as what it had, whatever that was. Assumes nothing.
+use mathlib.Core.Path.{_≡_, refl, _∙_}
+use mathlib.Core.Bool.{Bool, true, false, _&&_, cond}
+use mathlib.Core.List.{List}
+use Prim.Native.Nat.{ℕ, zero, suc, _+_, _*_}
+use lib.Dec.{ltb, leb}
+use lib.IntN.{ℤ}
+use lib.Ieee.{Float}
+use lib.ListN.{length, length-set}
+use Rattle.effect.specs.declared.integrators.Integrators.{Integrators}
+use Rattle.effect.specs.declared.filter.FilterMode.{FilterMode}
+use Rattle.effect.specs.declared.eq_filter.EqFilterKind.{EqFilterKind}
+use Rattle.line.specs.Held.{Held, front, Ran}
+use Rattle.line.proofs.Keeps.{Same, same-refl, joined-keeps, frame-in-keeps, reverb-keeps}
+use Rattle.stage.specs.declared.kind.Stage.{Stage}
+use Rattle.stage.specs.declared.kind.Stage.the-variants.{VolumeControl, PanningControl, Distortion, Filter, EqFilter, Reverb, Delay}
+use Rattle.stage.specs.Kind.{stageAt}
+use Rattle.step.specs.Memory.{remember}
+use Rattle.step.specs.Step.{filterStage, eqStage, delayStage, stageOf, inTurn, spanOf, stepOf, placeOf}
+use Rattle.step.proofs.Levels.{volume-is, panning-is, distortion-is, filter-is, eq-is, reverb-is, delay-is, step-is, span-zero, span-shallow, span-is, place-is}
+
+abbrev pub Keeps : (Ran → Ran) → Type 0
+Keeps f = (r : Ran) → Same (f r .held) (r .held)
+
+-- ---- a stage
+
+pub remember-keeps : (memory : Integrators) (floats : List Float) → length (remember memory floats) ≡ length floats
+unfolding remember
+remember-keeps memory floats = frame-in-keeps 9 (memory .ic2eq) _ ∙ frame-in-keeps 8 (memory .ic1eq) floats
+
+pub filter-keeps : (mode : FilterMode) (g resonance mix : Float) → Keeps (filterStage mode g resonance mix)
+unfolding filterStage
+filter-keeps mode g resonance mix r = record { store = refl; positions = refl; floats = remember-keeps _ _ }
+
+pub eq-keeps : (kind : EqFilterKind) (g : Float) (gain : ℤ) (q : Float) → Keeps (eqStage kind g gain q)
+unfolding eqStage
+eq-keeps kind g gain q r = record { store = refl; positions = refl; floats = remember-keeps _ _ }
+
+module _ (inner : Ran → Ran) (keeps : Keeps inner) where
+  pub delay-keeps : (frames : ℕ) (feedback : ℤ) (mix : Float) → Keeps (delayStage frames feedback mix inner)
+  unfolding delayStage front
+  delay-keeps frames feedback mix r = joined-keeps (2 * frames) 24 20 _ _ (r .held) record { store = frame-in-keeps _ _ _; positions = simp length-set; floats = refl } (keeps _)
+
+  pub stage-keeps : (rate : ℕ) (s : Stage) → Keeps (stageOf rate inner s)
+  stage-keeps rate (VolumeControl volume) r = rw volume-is (same-refl (r .held))
+  stage-keeps rate (PanningControl panning) r = rw panning-is (same-refl (r .held))
+  stage-keeps rate (Distortion kind drive mix) r = rw distortion-is (same-refl (r .held))
+  stage-keeps rate (Filter mode g resonance mix) r = rw filter-is (filter-keeps mode g resonance mix r)
+  stage-keeps rate (EqFilter kind g gain q) r = rw eq-is (eq-keeps kind g gain q r)
+  stage-keeps rate (Reverb feedback damping width mix) r = rw reverb-is (reverb-keeps rate feedback damping width mix r)
+  stage-keeps rate (Delay frames feedback mix owned) r = rw delay-is (delay-keeps frames feedback mix r)
+
+-- ---- stages in turn
+
+turn-keeps : (lines places : ℕ) (f g : Ran → Ran) → Keeps f → Keeps g → Keeps (inTurn lines places f g)
+unfolding inTurn
+turn-keeps lines places f g p q r = joined-keeps lines (24 * places) (20 * places) _ _ (r .held) (p _) (q _)
+
+cond-keeps : (t : Bool) (a b : Ran) (h : Held) → Same (a .held) h → Same (b .held) h → Same (cond t a b .held) h
+cond-keeps true a b h p q = p
+cond-keeps false a b h p q = q
+
+module _ (rate : ℕ) (l : List Stage) (starts : List ℕ) where
+  pub span-keeps : (n left i e : ℕ) → Keeps (spanOf n left rate l starts i e)
+  span-keeps zero left i e r = rw span-zero (same-refl (r .held))
+  span-keeps (suc n) zero i e r = rw span-shallow (same-refl (r .held))
+  span-keeps (suc n) (suc left) i e r =
+      rw span-is
+      (cond-keeps (ltb i e) _ _ (r .held)
+      (turn-keeps _ _ _ _ (λ s. rw step-is (stage-keeps _ (span-keeps n left (i + 1) _) rate (stageAt l i) s)) (span-keeps n (suc left) _ e) r)
+      (same-refl (r .held)))
+
+  module _ (i e : ℕ) where
+    pub step-keeps : (n left : ℕ) → Keeps (stepOf n left rate l starts i e)
+    step-keeps n left r = rw step-is (stage-keeps _ (span-keeps n left (i + 1) e) rate (stageAt l i) r)
+
+    pub place-keeps : Keeps (placeOf rate l starts i e)
+    place-keeps r = rw place-is (cond-keeps (ltb i e && leb e 16) _ _ (r .held) (step-keeps 16 3 r) (same-refl (r .held)))

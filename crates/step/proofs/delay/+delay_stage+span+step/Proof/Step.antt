@@ -1,0 +1,96 @@
+-- `delay::step` meets its contract, if its delay does at a smaller measure: each kind's promise is the definition at that kind. Assumes nothing.
+use Prim.Native.Nat.{ℕ}
+use mir.Syntax.{w32}
+use mir.ValLaws.{toZ-ofZ}
+use borrow.Author.Needs.{needs}
+use Rattle.step.proofs.Levels.{volume-is, panning-is, distortion-is, filter-is, eq-is, reverb-is, delay-is}
+use Rattle.step.proofs.Steps.{step-by}
+use Rattle.step.proofs.delay.step.Reads as step
+use Rattle.step.proofs.delay.+delay_stage+span+step.Lts-step as step-lts
+use Rattle.step.proofs.delay.+delay_stage+span+step.Proof.Calls.{step-at, step-calls}
+
+pub step-met : {M : Type 1} (t : ℕ) → step-lts.Closed (step-calls t) (step-at t) step.Post M
+step-met t =
+    step-lts.spec (step-calls t) (step-at t) step.Post
+    -- mul-stage
+    (λ c. search needs)
+    -- array-copy-out-stage
+    (λ c. search needs)
+    -- enum-known-stage
+    (λ c. search needs)
+    -- process-requires
+    (λ c κs. search needs)
+    -- enum-known-stage-2
+    (λ c. search needs)
+    -- process-requires-2
+    (λ c κs. search needs)
+    -- enum-known-stage-3
+    (λ c. search needs)
+    -- process-requires-3
+    (λ c κs. search needs)
+    -- enum-known-stage-4
+    (λ c. search needs)
+    -- filter-stage-requires
+    (λ c κs. search needs)
+    -- enum-known-stage-5
+    (λ c. search needs)
+    -- eq-stage-requires
+    (λ c κs. search needs)
+    -- enum-known-stage-6
+    (λ c. search needs)
+    -- process-requires-4
+    (λ c κs. search needs)
+    -- enum-known-stage-7
+    (λ c. search needs)
+    -- delay-stage-requires
+    (λ c κs. search needs)
+    -- returns
+    (λ c.
+    let after-known-told = c .before in
+    let after-stage2 = after-known-told .before in
+    step-by _ _ _ _ _ _ _ _ _ (after-stage2 .stage2 .given .1) (λ n g. rw (volume-is, c .process .ensures, toZ-ofZ w32 (after-stage2 .stage2 .given .0 .0) record { sfits = after-known-told .known-told .given .0 .1 })))
+    -- returns-2
+    (λ c. let after-stage3 = c .before .before in step-by _ _ _ _ _ _ _ _ _ (after-stage3 .stage3 .given .1) (λ n g. rw (panning-is, c .process2 .ensures)))
+    -- returns-3
+    (λ c.
+    let after-known-told3 = c .before in
+    let after-stage4 = after-known-told3 .before in
+    step-by _ _ _ _ _ _ _ _ _ (after-stage4 .stage4 .given .1) (λ n g. rw (distortion-is, c .process3 .ensures, toZ-ofZ w32 (after-stage4 .stage4 .given .0 .1 .0) record { sfits = after-known-told3 .known-told3 .given .1 .0 .1 })))
+    -- same-length
+    (λ c. search needs)
+    -- returns-4
+    (λ c.
+    let after-filter-stage = c .before .before in
+    let after-stage5 = after-filter-stage .before .before .before in
+    step-by _ _ _ _ _ _ _ _ _ (after-stage5 .stage5 .given .1) (λ n g. rw filter-is (after-filter-stage .filter-stage .ensures _ _)))
+    -- same-length-2
+    (λ c. search needs)
+    -- returns-5
+    (λ c.
+    let after-eq-stage = c .before .before in
+    let after-known-told5 = after-eq-stage .before .before in
+    let after-stage6 = after-known-told5 .before in
+    step-by _ _ _ _ _ _ _ _ _ (after-stage6 .stage6 .given .1) (λ n g. rw (eq-is, ← toZ-ofZ w32 (after-stage6 .stage6 .given .0 .1 .1 .0) record { sfits = after-known-told5 .known-told5 .given .1 .1 .0 .1 }) (after-eq-stage .eq-stage .ensures _ _)))
+    -- same-length-3
+    (λ c. search needs)
+    -- same-length-4
+    (λ c. search needs)
+    -- same-length-5
+    (λ c. search needs)
+    -- returns-6
+    (λ c.
+    let after-process4 = c .before .before .before .before .before .before in
+    let after-stage7 = after-process4 .before .before .before .before .before in
+    step-by _ _ _ _ _ _ _ _ _ (after-stage7 .stage7 .given .1) (λ n g. rw reverb-is (after-process4 .process4 .ensures)))
+    -- same-length-6
+    (λ c. search needs)
+    -- same-length-7
+    (λ c. search needs)
+    -- same-length-8
+    (λ c. search needs)
+    -- returns-7
+    (λ c.
+    let after-delay-stage = c .before .before .before .before .before .before in
+    let after-known-told7 = after-delay-stage .before .before .before .before in
+    let after-stage8 = after-known-told7 .before in
+    step-by _ _ _ _ _ _ _ _ _ (after-stage8 .stage8 .given .1) (λ n g. rw (delay-is, ← toZ-ofZ w32 (after-stage8 .stage8 .given .0 .1 .0) record { sfits = after-known-told7 .known-told7 .given .1 .0 .1 }) (after-delay-stage .delay-stage .ensures n g)))

@@ -1,0 +1,100 @@
+-- A frame goes through stages, each on its own stretch of what they hold. Definitions only.
+use mathlib.Core.Bool.{cond, _&&_}
+use mathlib.Core.List.{List}
+use Prim.Native.Nat.{ℕ, zero, suc, _+_, _*_, _-_}
+use lib.Dec.{ltb, leb}
+use lib.IntN.{ℤ}
+use lib.ListN.{getD, set}
+use lib.Ieee.{Float}
+use Rattle.decibels.specs.Amplitude.{amplitudeOf}
+use Rattle.frame.specs.declared.Frame.{Frame}
+use Rattle.frame.specs.Operations.{addOf, mulOf}
+use Rattle.frame.specs.Mix.{mixOf}
+use Rattle.effect.specs.declared.filter.FilterMode.{FilterMode}
+use Rattle.effect.specs.declared.eq_filter.EqFilterKind.{EqFilterKind}
+use Rattle.effect.specs.VolumeControl.{volumeOf}
+use Rattle.effect.specs.PanningControl.{panningOf}
+use Rattle.effect.specs.Distortion.{distortionOf}
+use Rattle.effect.specs.Filter.{filterOf}
+use Rattle.effect.specs.EqFilter.{eqOf}
+use Rattle.line.specs.Held.{Held, holds, joined, Ran, ran}
+use Rattle.line.specs.Position as Position
+use Rattle.line.specs.Frames.{frameAt, frameIn}
+use Rattle.line.specs.Reverb.{reverbOf}
+use Rattle.stage.specs.declared.kind.Stage.{Stage}
+use Rattle.stage.specs.declared.kind.Stage.the-variants.{VolumeControl, PanningControl, Distortion, Filter, EqFilter, Reverb, Delay}
+use Rattle.stage.specs.Kind.{stageAt, nextOf}
+use Rattle.stage.specs.Layout.{sizeOf, frontPlaces, backPlaces}
+use Rattle.step.specs.Memory.{remembered, remember}
+
+-- ---- a filter and an EQ keep their two frames among the floats
+
+unfoldable pub filterStage : FilterMode → Float → Float → Float → Ran → Ran
+filterStage mode g resonance mix r =
+    let h = r .held in
+    let done = filterOf mode g resonance mix (remembered (h .floats)) (r .frame) in
+    ran (done .output) (holds (h .store) (h .positions) (remember (done .after) (h .floats)))
+
+unfoldable pub eqStage : EqFilterKind → Float → ℤ → Float → Ran → Ran
+eqStage kind g gain q r =
+    let h = r .held in
+    let done = eqOf kind g q gain (remembered (h .floats)) (r .frame) in
+    ran (done .output) (holds (h .store) (h .positions) (remember (done .after) (h .floats)))
+
+-- ---- a delay: "take the oldest frame, run it through the feedback stages, multiply by the feedback amplitude: this is the wet frame. Store input plus wet. Mix wet with input"
+
+-- its line is the front of what it holds, and `inner`, its feedback stages, have the rest
+unfoldable pub delayStage : ℕ → ℤ → Float → (Ran → Ran) → Ran → Ran
+delayStage frames feedback mix inner r =
+    let own = frontPlaces (2 * frames) 1 (r .held) in
+    let rest = backPlaces (2 * frames) 1 (r .held) in
+    let at = getD (own .positions) 0 0 in
+    let fed = inner (ran (frameAt at (own .store)) rest) in
+    let wet = mulOf (fed .frame) (amplitudeOf feedback) in
+    ran (mixOf wet (r .frame) mix)
+    (joined (holds (frameIn at (addOf (r .frame) wet) (own .store)) (set (own .positions) 0 (Position.nextOf at frames)) (own .floats)) (fed .held))
+
+-- ---- a stage, whose feedback stages are `inner`
+
+unfoldable pub stageOf : ℕ → (Ran → Ran) → Stage → Ran → Ran
+unfolding filterStage eqStage delayStage
+stageOf rate inner (VolumeControl volume) r = ran (volumeOf volume (r .frame)) (r .held)
+stageOf rate inner (PanningControl panning) r = ran (panningOf panning (r .frame)) (r .held)
+stageOf rate inner (Distortion kind drive mix) r = ran (distortionOf kind drive mix (r .frame)) (r .held)
+stageOf rate inner (Filter mode g resonance mix) r = filterStage mode g resonance mix r
+stageOf rate inner (EqFilter kind g gain q) r = eqStage kind g gain q r
+stageOf rate inner (Reverb feedback damping width mix) r = reverbOf rate feedback damping width mix r
+stageOf rate inner (Delay frames feedback mix owned) r = delayStage frames feedback mix inner r
+
+-- ---- stages one after another: f has the front, and g has f's frame and the rest
+
+unfoldable pub inTurn : ℕ → ℕ → (Ran → Ran) → (Ran → Ran) → Ran → Ran
+inTurn lines places f g r =
+    let a = f (ran (r .frame) (frontPlaces lines places (r .held))) in
+    let b = g (ran (a .frame) (backPlaces lines places (r .held))) in
+    ran (b .frame) (joined (a .held) (b .held))
+
+-- The stages from i up to e, while there is depth left. `starts` says where lines start, and n is at least how many stages there are.
+unfoldable pub spanOf : ℕ → ℕ → ℕ → List Stage → List ℕ → ℕ → ℕ → Ran → Ran
+unfolding stageOf inTurn
+spanOf zero left rate l starts i e r = r
+spanOf (suc n) zero rate l starts i e r = r
+spanOf (suc n) (suc left) rate l starts i e r =
+    let next = nextOf (stageAt l i) i e in
+    cond (ltb i e)
+    (inTurn (sizeOf starts i next) (next - i)
+    (stageOf rate (spanOf n left rate l starts (i + 1) next) (stageAt l i))
+    (spanOf n (suc left) rate l starts next e)
+    r)
+    r
+
+-- the stage at i, whose own stages end at e
+unfoldable pub stepOf : ℕ → ℕ → ℕ → List Stage → List ℕ → ℕ → ℕ → Ran → Ran
+unfolding stageOf spanOf
+stepOf n left rate l starts i e r = stageOf rate (spanOf n left rate l starts (i + 1) e) (stageAt l i) r
+
+-- ---- "a step of the stage at a list place", of at most 16 places and with depths down to 3; elsewhere the frame comes back and nothing changes
+
+unfoldable pub placeOf : ℕ → List Stage → List ℕ → ℕ → ℕ → Ran → Ran
+unfolding stepOf
+placeOf rate l starts i e r = cond (ltb i e && leb e 16) (stepOf 16 3 rate l starts i e r) r

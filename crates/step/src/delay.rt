@@ -1,0 +1,240 @@
+// A frame through a stage and through stages. A delay's line is the front of its stretch, and the
+// stages that it owns have the rest: they are run by a call of `span` with the depth left going down.
+ghost use mathlib.Core.Path.{_≡_};
+ghost use Prim.Native.Nat.{ℕ, _+_, _-_, _≤_, _<_, min};
+ghost use lib.ListN.{getD, set, length};
+ghost use Rattle.line.specs.Held.{holds, ran};
+ghost use Rattle.step.specs.Step.{filterStage, eqStage, delayStage, stepOf, spanOf};
+use crate::memory::keep;
+use crate::memory::recall;
+use decibels::amplitude;
+use effect::distortion;
+use effect::eq_filter;
+use effect::eq_filter::EqFilterKind;
+use effect::filter;
+use effect::filter::FilterMode;
+use effect::panning_control;
+use effect::volume_control;
+use frame::Frame;
+use line::frames::frame_at;
+use line::frames::put_frame;
+use line::position::next_position;
+use line::reverb;
+use stage::kind::Stage;
+use stage::layout::next_place;
+use stage::layout::size_between;
+
+fn lesser(a: usize, b: usize) -> usize
+    ensures { λ r. ⌜ r ≡ min a b ⌝ }
+{
+    if a < b { a } else { b }
+}
+
+// The first position of a place, and 0 where there is none.
+fn first_position(positions: &[usize]) -> usize
+    ensures { λ r. ⌜ r ≡ getD (now (positions .entry)) 0 0 ⌝ }
+{
+    if 0 < positions.len() {
+        return positions[0];
+    }
+    0
+}
+
+fn put_first(positions: &mut [usize], at: usize)
+    ensures { λ _. ⌜ now (positions .exit) ≡ set (now (positions .entry)) 0 at ⌝ }
+{
+    if 0 < positions.len() {
+        positions[0] = at;
+    }
+}
+
+fn filter_stage(
+    x: Frame,
+    mode: FilterMode,
+    g: f64,
+    resonance: f64,
+    mix: f32,
+    floats: &mut [f32],
+) -> Frame
+    ensures { λ r. ⌜ ((s : _) (p : _) → ran r (holds s p (now (floats .exit))) ≡ filterStage mode g resonance mix (ran x (holds s p (now (floats .entry))))) ⌝ }
+{
+    let filtered = filter::process(x, recall(floats), mode, g, resonance, mix);
+    let after = filtered.after;
+    keep(floats, after);
+    filtered.output
+}
+
+fn eq_stage(x: Frame, kind: EqFilterKind, g: f64, gain: i32, q: f64, floats: &mut [f32]) -> Frame
+    ensures { λ r. ⌜ ((s : _) (p : _) → ran r (holds s p (now (floats .exit))) ≡ eqStage kind g gain q (ran x (holds s p (now (floats .entry))))) ⌝ }
+{
+    let filtered = eq_filter::process(x, recall(floats), kind, g, q, gain);
+    let after = filtered.after;
+    keep(floats, after);
+    filtered.output
+}
+
+// The delay at the head of its stretch; its own stages are those from i + 1 up to e.
+fn delay_stage(
+    rate: u32,
+    stages: [Stage; 16],
+    starts: &[usize; 17],
+    i: usize,
+    e: usize,
+    left: usize,
+    frames: u32,
+    feedback: i32,
+    mix: f32,
+    x: Frame,
+    store: &mut [f32],
+    positions: &mut [usize],
+    floats: &mut [f32],
+) -> Frame
+    requires { ⌜ (i < e) × (e ≤ 16) ⌝ }
+    ensures { λ r. ⌜ ((n : ℕ) → e - (i + 1) ≤ n → ran r (holds (now (store .exit)) (now (positions .exit)) (now (floats .exit)))
+        ≡ delayStage frames feedback mix (spanOf n left rate stages (now (starts .entry)) (i + 1) e) (ran x (holds (now (store .entry)) (now (positions .entry)) (now (floats .entry))))) ⌝ }
+{
+    let length = frames as usize;
+    let n = lesser(2 * length, store.len());
+    let p = lesser(24, positions.len());
+    let f = lesser(20, floats.len());
+    let at = first_position(positions);
+    let oldest = frame_at(&store[..n], at);
+    let fed = span(
+        rate,
+        stages,
+        starts,
+        i + 1,
+        e,
+        left,
+        oldest,
+        &mut store[n..],
+        &mut positions[p..],
+        &mut floats[f..],
+    );
+    let wet = fed.mul(amplitude(feedback));
+    put_frame(&mut store[..n], at, x.add(wet));
+    put_first(positions, next_position(at, length));
+    wet.mixed(x, mix)
+}
+
+// The stage at i, whose own stages end at e.
+pub(crate) fn step(
+    rate: u32,
+    stages: [Stage; 16],
+    starts: &[usize; 17],
+    i: usize,
+    e: usize,
+    left: usize,
+    x: Frame,
+    store: &mut [f32],
+    positions: &mut [usize],
+    floats: &mut [f32],
+) -> Frame
+    requires { ⌜ (i < e) × (e ≤ 16) ⌝ }
+    ensures { λ r. ⌜ ((n : ℕ) → e - (i + 1) ≤ n → ran r (holds (now (store .exit)) (now (positions .exit)) (now (floats .exit)))
+        ≡ stepOf n left rate stages (now (starts .entry)) i e (ran x (holds (now (store .entry)) (now (positions .entry)) (now (floats .entry))))) ⌝ }
+{
+    let stage = stages[i];
+    match stage {
+        Stage::VolumeControl { volume } => volume_control::process(x, volume),
+        Stage::PanningControl { panning } => panning_control::process(x, panning),
+        Stage::Distortion { kind, drive, mix } => distortion::process(x, kind, drive, mix),
+        Stage::Filter {
+            mode,
+            g,
+            resonance,
+            mix,
+        } => filter_stage(x, mode, g, resonance, mix, floats),
+        Stage::EqFilter { kind, g, gain, q } => eq_stage(x, kind, g, gain, q, floats),
+        Stage::Reverb {
+            feedback,
+            damping,
+            stereo_width,
+            mix,
+        } => reverb::process(
+            x,
+            rate,
+            feedback,
+            damping,
+            stereo_width,
+            mix,
+            store,
+            positions,
+            floats,
+        ),
+        Stage::Delay {
+            frames,
+            feedback,
+            mix,
+            owned: _,
+        } => delay_stage(
+            rate,
+            stages,
+            starts,
+            i,
+            e,
+            left,
+            frames,
+            feedback,
+            mix,
+            x,
+            store,
+            positions,
+            floats,
+        ),
+    }
+}
+
+// The stages from i up to e, each on its own stretch, while there is depth left.
+fn span(
+    rate: u32,
+    stages: [Stage; 16],
+    starts: &[usize; 17],
+    i: usize,
+    e: usize,
+    left: usize,
+    x: Frame,
+    store: &mut [f32],
+    positions: &mut [usize],
+    floats: &mut [f32],
+) -> Frame
+    requires { ⌜ (i ≤ e) × (e ≤ 16) ⌝ }
+    ensures { λ r. ⌜ ((n : ℕ) → e - i ≤ n → ran r (holds (now (store .exit)) (now (positions .exit)) (now (floats .exit)))
+        ≡ spanOf n left rate stages (now (starts .entry)) i e (ran x (holds (now (store .entry)) (now (positions .entry)) (now (floats .entry))))) ⌝ }
+{
+    if left == 0 {
+        return x;
+    }
+    if i >= e {
+        return x;
+    }
+    let stage = stages[i];
+    let next = next_place(stage, i, e);
+    let n = lesser(size_between(starts, i, next), store.len());
+    let p = lesser(24 * (next - i), positions.len());
+    let f = lesser(20 * (next - i), floats.len());
+    let y = step(
+        rate,
+        stages,
+        starts,
+        i,
+        next,
+        left - 1,
+        x,
+        &mut store[..n],
+        &mut positions[..p],
+        &mut floats[..f],
+    );
+    span(
+        rate,
+        stages,
+        starts,
+        next,
+        e,
+        left,
+        y,
+        &mut store[n..],
+        &mut positions[p..],
+        &mut floats[f..],
+    )
+}

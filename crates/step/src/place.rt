@@ -1,0 +1,33 @@
+// A step of the stage at a list place.
+ghost use mathlib.Core.Path.{_≡_};
+ghost use Rattle.line.specs.Held.{holds, ran};
+ghost use Rattle.step.specs.Step.{placeOf};
+use crate::delay::step;
+use frame::Frame;
+use stage::kind::Stage;
+
+// The frame x through the stage at place i, whose own stages end at place e, with their stretch of
+// the store, the positions and the floats. `starts` says where lines start (layout::starts_of).
+// Where i is not before e, or e is past the list, the frame comes back and nothing changes.
+pub fn process(
+    rate: u32,
+    stages: [Stage; 16],
+    starts: &[usize; 17],
+    i: usize,
+    e: usize,
+    x: Frame,
+    store: &mut [f32],
+    positions: &mut [usize],
+    floats: &mut [f32],
+) -> Frame
+    ensures { λ r. ⌜ ran r (holds (now (store .exit)) (now (positions .exit)) (now (floats .exit)))
+        ≡ placeOf rate stages (now (starts .entry)) i e (ran x (holds (now (store .entry)) (now (positions .entry)) (now (floats .entry)))) ⌝ }
+{
+    if i >= e {
+        return x;
+    }
+    if e > 16 {
+        return x;
+    }
+    step(rate, stages, starts, i, e, 3, x, store, positions, floats)
+}
