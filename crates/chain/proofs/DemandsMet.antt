@@ -1,28 +1,28 @@
 -- Demands 2 and 3 are met, as specs/Demands.antt states them. Assumes nothing.
-use mathlib.Core.Path.{_≡_, refl, sym, ap, ap₂, _∙_, subst}
+use mathlib.Core.Path.{_≡_, sym, ap, _∙_, subst}
 use mathlib.Core.Bool.{Bool, true, cond}
-use mathlib.Core.List.{List, [], _∷_, _++_}
-use Prim.Native.Nat.{ℕ, suc, _+_, _*_, _/_, _≤_, _<_}
-use native.Mathlib.Omega.{arith}
+use mathlib.Core.List.{List, [], _∷_}
+use Prim.Native.Nat.{ℕ}
 use lib.Ieee.{Float}
-use lib.ListN.{length, length-append}
+use lib.ListN.{length}
 use Rattle.line.specs.Held.{Held}
-use Rattle.order.specs.Chain.{State, Chain, Inv, step}
+use Rattle.order.specs.Chain.{State}
 use Rattle.order.specs.Render.{frames, from}
-use Rattle.order.specs.Claims.{begin, Cut, Whole, Finishes, Kept}
+use Rattle.order.specs.Finish.{finishing}
+use Rattle.order.specs.Claims.{Whole, Finishes}
 use Rattle.order.proofs.OneStep.{one-step}
 use Rattle.order.proofs.Agree.{orders-agree}
 use Rattle.order.proofs.FrameByFrame.{frames-whole, frame-by-frame, order-renders}
-use Rattle.order.proofs.Cuts.{cut-parts}
+use Rattle.order.proofs.Finishing.{finishing-finishes, leaves-finishing}
 use Rattle.stage.specs.declared.kind.Stage.{Stage}
 use Rattle.refuse.specs.Answer.{acceptedOf}
 use Rattle.refuse.specs.Tops.{topsOf}
 use Rattle.refuse.proofs.Clears.{clear-of-accepted, accepted-of-clear}
-use Rattle.chain.specs.Chain.{Room, chainOf, framesOf, Ready, Orderly, stepped, ordered}
-use Rattle.chain.specs.Run.{answerOn, leftOf}
-use Rattle.chain.specs.Demands.{Arrays, Taken, Finishing, SingleSteps, StepByStep, OneStep, StepsKeepApart, AnyOrder, FrameAfterFrame, WholeFrames, CutAt, CutAnywhere}
+use Rattle.chain.specs.Chain.{Room, chainOf, framesOf, stepped, ordered}
+use Rattle.chain.specs.Run.{leftOf, renderedOf}
+use Rattle.chain.specs.Demands.{Taken, AllAt, Finishing, StepByStep, OneStep, StepsKeepApart, AnyOrder, WholeFrames, RenderIsRun}
 use Rattle.chain.proofs.ChainLocal.{Sized, chain-local}
-use Rattle.chain.proofs.Accepts.{ClearOn, ready, orderly, clear-with, arrays-stay, clear-stays, clear-after}
+use Rattle.chain.proofs.Accepts.{ClearOn, ready, orderly, clear-with, clear-stays}
 
 module _ (rate : ℕ) (l : List Stage) (c : ℕ) where
   pub clear : (s : State Float Held) (order : List ℕ) → Taken rate l c s order → ClearOn rate l c s order
@@ -90,3 +90,22 @@ whole-frames rate l c s order a t f =
         renders = ap (from 0) left ∙ order-renders C (Room rate l c) (Sized rate l c) (chain-local rate l c) F order s v (whole rate l c s order f);
       },
     )
+
+-- ---- and `render`
+pub render-is-run : RenderIsRun
+render-is-run rate l c s a t =
+    let C = chainOf rate l c in
+    let F : ℕ = framesOf (s .samples) in
+    let order = finishing (topsOf l c) F (s .progress) in
+    let z = clear rate l c s [] t in
+    let v = ready rate l c s [] a z in
+    let f = finishing-finishes C (Room rate l c) (Sized rate l c) (chain-local rate l c) F s v in
+    let r : renderedOf rate l c s ≡ ordered rate l c s order = ap (λ (b : Bool). cond b (ordered rate l c s order) s) t in
+    record {
+      some = taken rate l c s order (clear-with rate l c s [] order z (f .accepted));
+      done = subst (λ (w : State Float Held). AllAt rate l c F w) (sym r) (f .done);
+      any = λ xs u d.
+          let left = left-is rate l c s xs u in
+          let g : Finishes C F s xs = record { accepted = orderly rate l c s xs (clear rate l c s xs u); done = subst (λ (w : State Float Held). AllAt rate l c F w) left d } in
+          left ∙ leaves-finishing C (Room rate l c) (Sized rate l c) (chain-local rate l c) F xs s v g ∙ sym r;
+    }

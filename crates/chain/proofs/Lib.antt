@@ -9,3 +9,5 @@ pub mod CutMet
 pub mod OneStep
 pub mod Turns
 pub mod Running
+pub mod OneOutcome
+pub mod TableMet

@@ -11,12 +11,13 @@ use Rattle.order.specs.Stretch.{part}
 use Rattle.order.specs.Order.{count}
 use Rattle.order.specs.Chain.{State, at, out}
 use Rattle.order.specs.Render.{frames, from, render}
+use Rattle.order.specs.Finish.{finishing}
 use Rattle.order.specs.Claims.{begin, Cut}
 use Rattle.stage.specs.declared.kind.Stage.{Stage}
 use Rattle.refuse.specs.Answer.{acceptedOf}
 use Rattle.refuse.specs.Tops.{topAt, topsOf}
-use Rattle.chain.specs.Chain.{chainOf, framesOf, stretch, replaced, stepped, Orderly, ordered}
-use Rattle.chain.specs.Run.{answerOn, leftOf}
+use Rattle.chain.specs.Chain.{chainOf, framesOf, replaced, stepped, Orderly, ordered}
+use Rattle.chain.specs.Run.{answerOn, leftOf, renderedOf}
 
 -- the arrays have the lengths that their types say
 pub record Arrays (s : State Float Held) : Type 0 where
@@ -99,3 +100,12 @@ CutAnywhere = (rate : ℕ) (l : List Stage) (c n : ℕ) (xs ys : List Float) (h 
     → Finishing rate l c (begin xs h p₁) first
     → Finishing rate l c (begin ys (ordered rate l c (begin xs h p₁) first .held) p₂) second
     → CutAt rate l c (begin (xs ++ ys) h p) (begin xs h p₁) (begin ys (leftOf rate l c (begin xs h p₁) first .held) p₂) whole first second
+
+-- `render`, for callers who do not care about orders, leaves what `run` leaves with any accepted order that brings every stage to the last frame; and there is one, from wherever the block stands
+pub record Rendering (rate : ℕ) (l : List Stage) (c : ℕ) (s : State Float Held) : Type 0 where
+  pub some : Taken rate l c s (finishing (topsOf l c) (framesOf (s .samples)) (s .progress))
+  pub done : AllAt rate l c (framesOf (s .samples)) (renderedOf rate l c s)
+  pub any : (order : List ℕ) → Taken rate l c s order → AllAt rate l c (framesOf (s .samples)) (leftOf rate l c s order) → leftOf rate l c s order ≡ renderedOf rate l c s
+
+abbrev pub RenderIsRun : Type 0
+RenderIsRun = (rate : ℕ) (l : List Stage) (c : ℕ) (s : State Float Held) → Arrays s → Taken rate l c s [] → Rendering rate l c s

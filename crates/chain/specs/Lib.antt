@@ -3,3 +3,4 @@ pub mod Chain
 pub mod Run
 pub mod Start
 pub mod Demands
+pub mod Table
