@@ -1,9 +1,8 @@
 -- Rows 1 to 5, one after the other, as the code tests them: each is reached by what the rows before it leave. Assumes nothing.
-use mathlib.Core.Path.{_≡_, refl, ap, sym, _∙_}
+use mathlib.Core.Path.{_≡_}
 use mathlib.Core.Bool.{false, _||_, or-true}
 use mathlib.Core.List.{List}
 use Prim.Native.Nat.{ℕ, _≤_, _<_}
-use native.Mathlib.Omega.{arith}
 use lib.Dec.{ltb}
 use lib.ListN.{getD}
 use borrow.Author.Tests.{lt-ltb, le-ltb}
@@ -13,7 +12,7 @@ use Rattle.stage.specs.Layout.{startOf, startsOf}
 use Rattle.stage.proofs.Starts.{starts-at}
 use Rattle.refuse.specs.declared.answer.Answer.the-variants.{Accepted, Rate, Stages, Shape, Setting, Store}
 use Rattle.refuse.specs.Shape.{faultyOf}
-use Rattle.refuse.specs.Refusals.{firstRow, outOfRange, chainAnswer}
+use Rattle.refuse.specs.Refusals.{outOfRange, chainAnswer}
 
 module _ (rate : ℕ) (l : List Stage) (c floats : ℕ) where
   -- what the code reads from the table of starts is where the lines end

@@ -1,5 +1,5 @@
 -- A call is accepted exactly where no row applies, said of each row in plain logic. Assumes nothing.
-use mathlib.Core.Path.{_≡_, refl, sym, _∙_}
+use mathlib.Core.Path.{_≡_, sym, _∙_}
 use mathlib.Core.Logic.{_⊎_, inl, inr, ⊎-elim}
 use mathlib.Core.Bool.{true, false, _||_, true≢false}
 use mathlib.Core.List.{List, [], _∷_, _++_}
@@ -26,7 +26,7 @@ use Rattle.refuse.specs.Table.{Faulty, Outside, Lost, Ahead, BadSample, 
 use Rattle.refuse.proofs.Bools.{true-or-false, not-so, or-none}
 use Rattle.refuse.proofs.Rows.{Refusing, NoRow, no-row, no-row-accepted}
 use Rattle.refuse.proofs.Stucks.{runs-so, runs-is}
-use Rattle.refuse.proofs.Plain.{none-such, such-none, either-is, either-so, faulty-so, faulty-is, outside-so, outside-is, lost-so, lost-is, ahead-so, ahead-is, bad-so, bad-is}
+use Rattle.refuse.proofs.Plain.{none-such, such-none, either-so, faulty-so, faulty-is, outside-so, outside-is, lost-so, lost-is, ahead-so, ahead-is, bad-so, bad-is}
 use Rattle.refuse.proofs.Numbered.{AllTell}
 use Rattle.refuse.proofs.TableHolds.{rows-tell}
 

@@ -35,15 +35,15 @@ pub record Hits (k : ℕ) (ps : List (ℕ → Type 0)) (answer : Answer) : Type 
   pub only : (place : ℕ) → Nth ps n place → placeOf answer ≡ place
 
 module _ {k : ℕ} {r : Row} {P : ℕ → Type 0} (t : Tells k r P) where
-  pub not-so : r .applies ≡ false → (place : ℕ) → P place → ⊥
-  not-so q place h = false≢true (sym q ∙ t .only place h .0)
+  never : r .applies ≡ false → (place : ℕ) → P place → ⊥
+  never q place h = false≢true (sym q ∙ t .only place h .0)
 
 -- one more condition in front, which does not hold
 later : {k : ℕ} {P : ℕ → Type 0} {ps : List (ℕ → Type 0)} {answer : Answer} → ((place : ℕ) → P place → ⊥) → Hits (suc k) ps answer → Hits k (P ∷ ps) answer
-later {k} {P} {ps} {answer} never h = record { n = suc (h .n); number = omega (arith, h .number); holds = h .holds; first = first; only = h .only }
+later {k} {P} {ps} {answer} not-here h = record { n = suc (h .n); number = omega (arith, h .number); holds = h .holds; first = first; only = h .only }
   where
     first : (j place : ℕ) → j < suc (h .n) → Nth (P ∷ ps) j place → ⊥
-    first zero place g q = never place q
+    first zero place g q = not-here place q
     first (suc j) place g q = h .first j place (omega arith) q
 
 pub hits : (k : ℕ) (rs : List Row) (ps : List (ℕ → Type 0)) → AllTell k rs ps → acceptedOf (firstRow rs) ≡ false → Hits k ps (firstRow rs)
@@ -55,7 +55,7 @@ hits k (r ∷ rs) (P ∷ ps) t h = go (r .applies) refl h (hits (suc k) rs ps (t
   where
     go : (b : Bool) → r .applies ≡ b → acceptedOf (cond b (r .answer) (firstRow rs)) ≡ false → (acceptedOf (firstRow rs) ≡ false → Hits (suc k) ps (firstRow rs)) → Hits k (P ∷ ps) (cond b (r .answer) (firstRow rs))
     go true q g f = record { n = 0; number = omega (arith, t .0 .number); holds = t .0 .so q; first = λ j place h. absurd (omega arith); only = λ place h. t .0 .only place h .1 }
-    go false q g f = later (not-so (t .0) q) (f g)
+    go false q g f = later (never (t .0) q) (f g)
 
 -- an accepted call is one under which no condition holds
 pub misses : (k : ℕ) (rs : List Row) (ps : List (ℕ → Type 0)) → AllTell k rs ps → acceptedOf (firstRow rs) ≡ true → (n place : ℕ) → Nth ps n place → ⊥
@@ -67,5 +67,5 @@ misses k (r ∷ rs) (P ∷ ps) t h n place q = go (r .applies) refl h (misses (s
   where
     go : (b : Bool) → r .applies ≡ b → acceptedOf (cond b (r .answer) (firstRow rs)) ≡ true → (acceptedOf (firstRow rs) ≡ true → (n place : ℕ) → Nth ps n place → ⊥) → (n : ℕ) → Nth (P ∷ ps) n place → ⊥
     go true e g f n q = false≢true (sym (t .0 .refusal) ∙ g)
-    go false e g f zero q = not-so (t .0) e place q
+    go false e g f zero q = never (t .0) e place q
     go false e g f (suc n) q = f g n place q

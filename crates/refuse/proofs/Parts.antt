@@ -6,6 +6,7 @@ use Prim.Native.Nat.{ℕ, _≤_}
 use lib.Ieee.{Float}
 use borrow.Author.Tests.{ltb-false}
 use Rattle.stage.specs.declared.kind.Stage.{Stage}
+use Rattle.stage.specs.Layout.{startOf}
 use Rattle.refuse.specs.Answer.{acceptedOf}
 use Rattle.refuse.specs.Refusals.{chainRows, blockRows, chainAnswer, blockAnswer, answerOf}
 use Rattle.refuse.proofs.Rows.{Refusing, NoRow, no-row, first-refused, first-passed}
@@ -22,6 +23,9 @@ module _ (rate : ℕ) (l : List Stage) (c floats : ℕ) where
 
   pub chain-count : acceptedOf (chainAnswer rate l c floats) ≡ true → c ≤ 16
   chain-count h = ltb-false 16 c (chain-clear h .1 .0)
+
+  pub chain-room : acceptedOf (chainAnswer rate l c floats) ≡ true → startOf rate l c ≤ floats
+  chain-room h = ltb-false floats (startOf rate l c) (chain-clear h .1 .1 .1 .1 .0)
 
   module _ (samples : List Float) (positions progress order : List ℕ) where
     pub refused-part : acceptedOf (chainAnswer rate l c floats) ≡ false → chainAnswer rate l c floats ≡ answerOf rate l c floats samples positions progress order

@@ -2,10 +2,9 @@
 use mathlib.Core.Path.{_≡_, refl, sym, _∙_}
 use mathlib.Core.Bool.{Bool, true, false, cond, false≢true}
 use mathlib.Core.List.{List, [], _∷_, _++_}
-use Rattle.refuse.specs.declared.answer.Answer.{Answer}
 use Rattle.refuse.specs.declared.answer.Answer.the-variants.{Accepted}
 use Rattle.refuse.specs.Answer.{acceptedOf}
-use Rattle.refuse.specs.Refusals.{Row, row, firstRow}
+use Rattle.refuse.specs.Refusals.{Row, firstRow}
 
 -- each row's answer is a refusal
 abbrev pub Refusing : List Row → Type 0

@@ -4,8 +4,8 @@ use mathlib.Core.Bool.{Bool, true, false, cond, false≢true}
 use mathlib.Core.List.{List, [], _∷_}
 use Prim.Native.Nat.{ℕ, zero, suc, _≤_, _<_}
 use native.Mathlib.Omega.{arith}
-use lib.ListN.{length, getD, take}
-use Rattle.order.specs.Order.{run, Accepted}
+use lib.ListN.{length}
+use Rattle.order.specs.Order.{Accepted}
 use Rattle.order.specs.Chain.{OkFrom}
 use Rattle.refuse.specs.Refusals.{mayRun, stuckOf}
 use Rattle.refuse.specs.Table.{tick, Stuck}
