@@ -15,7 +15,7 @@ use Rattle.order.specs.Claims.{Stepped}
 use Rattle.order.proofs.OneStep.{one-step, made}
 use Rattle.stage.specs.declared.kind.Stage.{Stage}
 use Rattle.refuse.specs.Tops.{topAt, topsOf}
-use Rattle.refuse.specs.Table.{tick, Clear}
+use Rattle.table.specs.Table.{tick, Clear}
 use Rattle.refuse.proofs.TopStages.{tops-le-16, top-le, top-next}
 use Rattle.chain.specs.Chain.{Room, chainOf, framesOf, Ready, Orderly, stepped, ordered}
 use Rattle.chain.specs.Demands.{Arrays}

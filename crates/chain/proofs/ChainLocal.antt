@@ -10,7 +10,7 @@ use Rattle.line.proofs.Keeps.{Same}
 use Rattle.order.specs.Chain.{Local}
 use Rattle.stage.specs.declared.kind.Stage.{Stage}
 use Rattle.stage.specs.Layout.{startsOf}
-use Rattle.step.proofs.Keeps.{place-keeps}
+use Rattle.apart.proofs.Keeps.{place-keeps}
 use Rattle.refuse.specs.Tops.{topAt, topsOf}
 use Rattle.refuse.proofs.TopStages.{top-le, top-next, top-mono}
 use Rattle.chain.specs.Chain.{stretch, replaced, Room, chainOf}

@@ -17,7 +17,7 @@ use Rattle.order.proofs.Finishing.{finishing-finishes, leaves-finishing}
 use Rattle.stage.specs.declared.kind.Stage.{Stage}
 use Rattle.refuse.specs.Answer.{acceptedOf}
 use Rattle.refuse.specs.Tops.{topsOf}
-use Rattle.refuse.proofs.Clears.{clear-of-accepted, accepted-of-clear}
+use Rattle.table.proofs.Clears.{clear-of-accepted, accepted-of-clear}
 use Rattle.chain.specs.Chain.{Room, chainOf, framesOf, stepped, ordered}
 use Rattle.chain.specs.Run.{leftOf, renderedOf}
 use Rattle.chain.specs.Demands.{Taken, AllAt, Finishing, StepByStep, OneStep, StepsKeepApart, AnyOrder, WholeFrames, RenderIsRun}

@@ -22,7 +22,7 @@ use Rattle.stage.specs.declared.kind.Stage.{Stage}
 use Rattle.stage.specs.Kind.{stageAt}
 use Rattle.stage.specs.Layout.{startsOf}
 use Rattle.stage.specs.Lines.{linesOf}
-use Rattle.step.proofs.OnLines.{Good, place-stays, good-part, good-splice}
+use Rattle.apart.proofs.OnLines.{Good, place-stays, good-part, good-splice}
 use Rattle.refuse.specs.Tops.{topAt, topsOf}
 use Rattle.refuse.specs.Refusals.{unrunFrom}
 use Rattle.refuse.proofs.TopStages.{top-le, top-next}

@@ -1,7 +1,7 @@
 -- Demand 1 is met, as specs/Table.antt states it. Assumes nothing.
 use mathlib.Core.Path.{sym}
 use lib.ListN.{length}
-use Rattle.refuse.proofs.TableHolds.{by-the-table}
+use Rattle.table.proofs.TableHolds.{by-the-table}
 use Rattle.chain.specs.Table.{AnswersTabled, StartsTabled}
 use Rattle.chain.proofs.Starting.{not-started}
 use Rattle.chain.proofs.Running.{not-ran}

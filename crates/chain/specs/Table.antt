@@ -10,7 +10,7 @@ use Rattle.order.specs.Chain.{State}
 use Rattle.stage.specs.declared.kind.Stage.{Stage}
 use Rattle.refuse.specs.Answer.{acceptedOf}
 use Rattle.refuse.specs.Refusals.{chainAnswer}
-use Rattle.refuse.specs.Table.{ByTheTable}
+use Rattle.table.specs.Table.{ByTheTable}
 use Rattle.chain.specs.Run.{answerOn, leftOf}
 use Rattle.chain.specs.Start.{startedOf}
 

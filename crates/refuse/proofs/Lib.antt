@@ -6,10 +6,4 @@ pub mod TopStages
 pub mod Entries
 pub mod Blocks
 pub mod Parts
-pub mod Stucks
-pub mod Numbered
-pub mod Plain
-pub mod TableHolds
-pub mod Clears
 pub mod OneOutcome
-pub mod Examples

@@ -2,4 +2,3 @@ pub mod Answer
 pub mod Shape
 pub mod Tops
 pub mod Refusals
-pub mod Table

@@ -1,9 +1,4 @@
 pub mod Lent
 pub mod Levels
 pub mod Steps
-pub mod Keeps
-pub mod Local
 pub mod OneOutcome
-pub mod Examples
-pub mod Moved
-pub mod OnLines

@@ -21,10 +21,10 @@ use Rattle.stage.specs.Layout.{placePositions}
 use Rattle.stage.specs.Lines.{linesOf, lostFrom, lostOf}
 use Rattle.stage.specs.Range.{inRangeOf}
 use Rattle.stage.proofs.Firsts.{first-is, first-clear, some-hit, some-less, some-so, none-clear}
 use Rattle.refuse.specs.Shape.{lastOf, ownsOf, outgrows, depthOf, faultyOf}
 use Rattle.refuse.specs.Refusals.{outOfRange, lostAt, aheadAt, badSample}
-use Rattle.refuse.specs.Table.{First, Faulty, Outside, Lost, Ahead, BadSample}
+use Rattle.table.specs.Table.{First, Faulty, Outside, Lost, Ahead, BadSample}
 use Rattle.refuse.proofs.Bools.{or-so, or-is, and-so, and-is, not-so}
 
 -- ---- the first of a test is the first in plain logic
 module _ (t : ℕ → Bool) (P : ℕ → Type 0) (so : (k : ℕ) → t k ≡ true → P k) (is : (k : ℕ) → P k → t k ≡ true) (n : ℕ) where

@@ -13,17 +13,17 @@ use borrow.Author.Tests.{ltb-true, lt-ltb, eqb-true, eq-eqb}
 use Rattle.stage.specs.declared.kind.Stage.{Stage}
 use Rattle.stage.specs.First.{firstOf, some}
 use Rattle.stage.specs.Layout.{startOf}
 use Rattle.refuse.specs.declared.answer.Answer.{Answer}
 use Rattle.refuse.specs.declared.answer.Answer.the-variants.{Entry}
 use Rattle.refuse.specs.Answer.{numberOf, placeOf, acceptedOf}
 use Rattle.refuse.specs.Shape.{faultyOf}
 use Rattle.refuse.specs.Tops.{topsOf}
 use Rattle.refuse.specs.Refusals.{Row, row, outOfRange, lostAt, aheadAt, unrunFrom, badSample, stuckOf, chainRows, blockRows, answerOf}
-use Rattle.refuse.specs.Table.{First, Faulty, Outside, Lost, Ahead, BadSample, Stuck, conditions, Applies, Given, ByTheTable}
+use Rattle.table.specs.Table.{First, Faulty, Outside, Lost, Ahead, BadSample, Stuck, conditions, Applies, Given, ByTheTable}
 use Rattle.refuse.proofs.Bools.{true-or-false}
-use Rattle.refuse.proofs.Stucks.{stuck-so, stuck-is}
-use Rattle.refuse.proofs.Plain.{first-hit, first-only, either-so, either-is, faulty-so, faulty-is, outside-so, outside-is, lost-so, lost-is, ahead-so, ahead-is, bad-so, bad-is}
-use Rattle.refuse.proofs.Numbered.{Tells, AllTell, Hits, hits, misses}
+use Rattle.table.proofs.Stucks.{stuck-so, stuck-is}
+use Rattle.table.proofs.Plain.{first-hit, first-only, either-so, either-is, faulty-so, faulty-is, outside-so, outside-is, lost-so, lost-is, ahead-so, ahead-is, bad-so, bad-is}
+use Rattle.table.proofs.Numbered.{Tells, AllTell, Hits, hits, misses}
 
 -- ---- two kinds of rows: of a condition, with a place that is its own; and of the first place at which something is so
 module _ {k : ℕ} {answer : Answer} (number : numberOf answer ≡ k) (refusal : acceptedOf answer ≡ false) where

@@ -25,11 +25,11 @@ use Rattle.stage.specs.Layout.{sizeOf, frontPlaces, backPlaces}
 use Rattle.stage.specs.Lines.{linesOf, lostOf}
 use Rattle.stage.proofs.Next.{next-le, next-more}
 use Rattle.stage.proofs.Firsts.{some-none, none-clear}
 use Rattle.step.specs.Step.{filterStage, eqStage, delayStage, stageOf, inTurn, spanOf, stepOf, placeOf}
 use Rattle.step.proofs.Levels.{volume-is, panning-is, distortion-is, filter-is, eq-is, reverb-is, delay-is, step-is, span-zero, span-shallow, span-is}
 use Rattle.step.proofs.Steps.{place-inside, place-empty, place-past}
-use Rattle.step.proofs.Keeps.{Keeps, step-keeps, place-keeps}
-use Rattle.step.proofs.Moved.{OnLines, Moved, next-on, reverb-moves}
+use Rattle.apart.proofs.Keeps.{Keeps, step-keeps, place-keeps}
+use Rattle.apart.proofs.Moved.{OnLines, Moved, next-on, reverb-moves}
 
 -- ps are the positions of the places from i up to e, 24 of each: of the stage at place j, the kth is below the length of the kth line
 abbrev pub Good : ℕ → List Stage → ℕ → ℕ → List ℕ → Type 0

@@ -10,8 +10,8 @@ use Rattle.order.proofs.Stretches.{length-part, length-splice, part-before, dro
 use Rattle.frame.specs.declared.Frame.{Frame}
 use Rattle.line.specs.Held.{Held, holds, Ran, ran}
 use Rattle.stage.specs.declared.kind.Stage.{Stage}
 use Rattle.step.specs.Step.{placeOf}
-use Rattle.step.proofs.Keeps.{Keeps, place-keeps}
+use Rattle.apart.proofs.Keeps.{Keeps, place-keeps}
 
 -- ---- a stretch of a list
 

@@ -7,9 +7,9 @@ use native.Mathlib.Omega.{arith}
 use lib.ListN.{length}
 use Rattle.order.specs.Order.{Accepted}
 use Rattle.order.specs.Chain.{OkFrom}
 use Rattle.refuse.specs.Refusals.{mayRun, stuckOf}
-use Rattle.refuse.specs.Table.{tick, Stuck}
+use Rattle.table.specs.Table.{tick, Stuck}
 use Rattle.refuse.proofs.Entries.{may-means, may-is}
 
 module _ (tops frames : ℕ) where
   abbrev Runs : List ℕ → List ℕ → Type 0

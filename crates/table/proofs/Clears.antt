@@ -17,18 +17,18 @@ use Rattle.stage.specs.Layout.{startOf, placePositions}
 use Rattle.stage.specs.Lines.{linesOf}
 use Rattle.stage.specs.Range.{inRangeOf}
 use Rattle.stage.proofs.Firsts.{none-clear}
 use Rattle.refuse.specs.declared.answer.Answer.the-variants.{Accepted}
 use Rattle.refuse.specs.Answer.{acceptedOf}
 use Rattle.refuse.specs.Shape.{faultyOf}
 use Rattle.refuse.specs.Tops.{topsOf}
 use Rattle.refuse.specs.Refusals.{Row, outOfRange, lostAt, aheadAt, unrunFrom, badSample, stuckOf, chainRows, blockRows, answerOf}
-use Rattle.refuse.specs.Table.{Faulty, Outside, Lost, Ahead, BadSample, conditions, Clear}
+use Rattle.table.specs.Table.{Faulty, Outside, Lost, Ahead, BadSample, conditions, Clear}
 use Rattle.refuse.proofs.Bools.{true-or-false, not-so, or-none}
 use Rattle.refuse.proofs.Rows.{Refusing, NoRow, no-row, no-row-accepted}
-use Rattle.refuse.proofs.Stucks.{runs-so, runs-is}
-use Rattle.refuse.proofs.Plain.{none-such, such-none, either-so, faulty-so, faulty-is, outside-so, outside-is, lost-so, lost-is, ahead-so, ahead-is, bad-so, bad-is}
-use Rattle.refuse.proofs.Numbered.{AllTell}
-use Rattle.refuse.proofs.TableHolds.{rows-tell}
+use Rattle.table.proofs.Stucks.{runs-so, runs-is}
+use Rattle.table.proofs.Plain.{none-such, such-none, either-so, faulty-so, faulty-is, outside-so, outside-is, lost-so, lost-is, ahead-so, ahead-is, bad-so, bad-is}
+use Rattle.table.proofs.Numbered.{AllTell}
+use Rattle.table.proofs.TableHolds.{rows-tell}
 
 -- every row that tells a condition refuses
 refusing : (k : ℕ) (rs : List Row) (ps : List (ℕ → Type 0)) → AllTell k rs ps → Refusing rs

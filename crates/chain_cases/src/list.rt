@@ -1,0 +1,123 @@
+// Refusals 1 to 5: the rate, the list, its settings and the store.
+use crate::say::all;
+use crate::say::case;
+use crate::say::delay;
+use crate::say::on_list;
+use crate::say::volume;
+use crate::say::with;
+use chain::memories::zero;
+use effect::distortion::DistortionKind;
+use effect::eq_filter::EqFilterKind;
+use stage::kind::Stage;
+
+fn eq_filter(gain: i32) -> Stage {
+    Stage::EqFilter {
+        kind: EqFilterKind::Bell,
+        g: 1.0,
+        gain,
+        q: 1.0,
+    }
+}
+
+fn distortion(drive: i32, mix: f32) -> Stage {
+    Stage::Distortion {
+        kind: DistortionKind::HardClip,
+        drive,
+        mix,
+    }
+}
+
+fn reverb() -> Stage {
+    Stage::Reverb {
+        feedback: 0.9,
+        damping: 0.1,
+        stereo_width: 1.0,
+        mix: 0.5,
+    }
+}
+
+// The stage at list place 1, after a volume control.
+fn on_second(name: &[u8], stage: Stage) {
+    on_list(name, 44100, with(all(volume(0)), 1, stage), 2);
+}
+
+pub(crate) fn rates() {
+    on_list(b"rate_7999", 7999, all(volume(0)), 0);
+    on_list(b"rate_8000", 8000, all(volume(0)), 0);
+    on_list(b"rate_192000", 192000, all(volume(0)), 0);
+    on_list(b"rate_192001", 192001, all(volume(0)), 0);
+}
+
+pub(crate) fn counts() {
+    on_list(b"stages_16", 44100, all(volume(0)), 16);
+    on_list(b"stages_17", 44100, all(volume(0)), 17);
+}
+
+pub(crate) fn shapes() {
+    let plain = all(volume(0));
+    let depth_1 = with(plain, 3, delay(1, 1));
+    let depth_2 = with(depth_1, 2, delay(1, 2));
+    let depth_3 = with(depth_2, 1, delay(1, 3));
+    let depth_4 = with(depth_3, 0, delay(1, 4));
+    on_list(b"depth_3", 44100, depth_3, 5);
+    on_list(b"depth_4", 44100, depth_4, 5);
+    on_list(b"owned_to_end", 44100, with(plain, 1, delay(1, 1)), 3);
+    on_list(b"owned_past_end", 44100, with(plain, 1, delay(1, 1)), 2);
+    let inner = with(plain, 2, delay(1, 1));
+    on_list(
+        b"owned_to_owners_end",
+        44100,
+        with(inner, 1, delay(1, 2)),
+        5,
+    );
+    on_list(
+        b"owned_past_owners_end",
+        44100,
+        with(inner, 1, delay(1, 1)),
+        5,
+    );
+    let most = delay(1, 18446744073709551615);
+    on_list(
+        b"owned_18446744073709551615",
+        44100,
+        with(plain, 0, most),
+        1,
+    );
+}
+
+pub(crate) fn settings() {
+    on_second(b"volume_24", volume(24));
+    on_second(b"volume_25", volume(25));
+    on_second(b"delay_0", delay(0, 0));
+    on_second(b"delay_1", delay(1, 0));
+    on_second(b"delay_480000", delay(480000, 0));
+    on_second(b"delay_480001", delay(480001, 0));
+    on_second(b"eq_gain_24", eq_filter(24));
+    on_second(b"eq_gain_25", eq_filter(25));
+    on_second(b"drive_-59", distortion(-59, 0.5));
+    on_second(b"drive_-60", distortion(-60, 0.5));
+    on_second(b"mix_nan", distortion(0, 0.0 / 0.0));
+}
+
+fn on_store(name: &[u8], store: &mut [f32]) {
+    let mut samples = [0.0; 0];
+    let order = [0; 0];
+    case(
+        name,
+        44100,
+        all(reverb()),
+        1,
+        &mut samples,
+        zero(),
+        store,
+        [0; 16],
+        &order,
+    );
+}
+
+pub(crate) fn stores() {
+    let mut short = [0.0; 25449];
+    on_store(b"reverb_25449", &mut short);
+    let mut enough = [0.0; 25450];
+    on_store(b"reverb_25450", &mut enough);
+}

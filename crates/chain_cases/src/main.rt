@@ -1,0 +1,26 @@
+// Runs the edges of document 01 on the public functions of the crate `chain`. A line for each case: its
+// name, and the answer's number and place. The file stdout was written from the document by hand.
+mod block;
+mod list;
+mod say;
+mod unchanged;
+
+fn main() {
+    list::rates();
+    list::counts();
+    list::shapes();
+    list::settings();
+    list::stores();
+    block::positions();
+    block::lengths();
+    block::progress();
+    block::samples();
+    block::owning();
+    block::orders();
+    block::empty();
+    unchanged::refused_step();
+    unchanged::taken_step();
+    unchanged::cleared();
+    unchanged::refused_start();
+    unchanged::rendered();
+}

@@ -1,0 +1,121 @@
+// What cases share: stages, a call, and the line that is written of its answer.
+use chain::memories::Memories;
+use chain::memories::zero;
+use chain::run::run;
+use libc::STDOUT_FILENO;
+use refuse::answer::Answer;
+use refuse::answer::number;
+use refuse::answer::place;
+use stage::kind::Stage;
+
+pub(crate) fn volume(volume: i32) -> Stage {
+    Stage::VolumeControl { volume }
+}
+
+pub(crate) fn delay(frames: u32, owned: usize) -> Stage {
+    Stage::Delay {
+        frames,
+        feedback: 0,
+        mix: 1.0,
+        owned,
+    }
+}
+
+pub(crate) fn all(stage: Stage) -> [Stage; 16] {
+    [stage; 16]
+}
+
+pub(crate) fn with(stages: [Stage; 16], i: usize, stage: Stage) -> [Stage; 16] {
+    let mut changed = stages;
+    if i < 16 {
+        changed[i] = stage;
+    }
+    changed
+}
+
+pub(crate) fn counts(first: usize, second: usize) -> [usize; 16] {
+    let mut progress = [0; 16];
+    progress[0] = first;
+    progress[1] = second;
+    progress
+}
+
+pub(crate) fn say_number(name: &[u8], n: u64) {
+    io::write_all(STDOUT_FILENO, name);
+    io::write_all(STDOUT_FILENO, b" ");
+    io::print_decimal(STDOUT_FILENO, n);
+    io::write_all(STDOUT_FILENO, b"\n");
+}
+
+pub(crate) fn say(name: &[u8], answer: Answer) {
+    io::write_all(STDOUT_FILENO, name);
+    io::write_all(STDOUT_FILENO, b" ");
+    io::print_decimal(STDOUT_FILENO, number(answer) as u64);
+    say_number(b"", place(answer) as u64);
+}
+
+pub(crate) fn case(
+    name: &[u8],
+    rate: u32,
+    stages: [Stage; 16],
+    count: usize,
+    samples: &mut [f32],
+    memories: Memories,
+    store: &mut [f32],
+    progress: [usize; 16],
+    order: &[usize],
+) {
+    let outcome = run(
+        rate,
+        stages,
+        count,
+        samples,
+        memories,
+        store,
+        progress,
+        order,
+    );
+    let answer = outcome.answer;
+    say(name, answer);
+}
+
+// A chain with no samples and no order, on a store of 64 floats.
+pub(crate) fn on_list(name: &[u8], rate: u32, stages: [Stage; 16], count: usize) {
+    let mut samples = [0.0; 0];
+    let mut store = [0.0; 64];
+    let order = [0; 0];
+    case(
+        name,
+        rate,
+        stages,
+        count,
+        &mut samples,
+        zero(),
+        &mut store,
+        [0; 16],
+        &order,
+    );
+}
+
+// A block at 44,100, on a store of 64 floats and memories at zero.
+pub(crate) fn on_block(
+    name: &[u8],
+    stages: [Stage; 16],
+    count: usize,
+    samples: &mut [f32],
+    progress: [usize; 16],
+    order: &[usize],
+) {
+    let mut store = [0.0; 64];
+    case(
+        name,
+        44100,
+        stages,
+        count,
+        samples,
+        zero(),
+        &mut store,
+        progress,
+        order,
+    );
+}

@@ -1,0 +1,6 @@
+pub mod Stucks
+pub mod Numbered
+pub mod Plain
+pub mod TableHolds
+pub mod Clears
+pub mod Examples
