@@ -143,4 +143,4 @@ module _ (rate : ℕ) (l : List Stage) (c floats : ℕ) (samples : List Float) (
 
   pub clear-of-accepted : acceptedOf (answerOf rate l c floats samples positions progress order) ≡ true → Clears
   unfolding answerOf
-  clear-of-accepted h = clear-of-rows (no-row rows (refusing 1 rows (conditions rate l c floats samples positions progress order) (rows-tell rate l c floats samples positions progress order)) h)
+  clear-of-accepted h = clear-of-rows (no-row rows (refusing 1 rows (conditions rate l c floats samples positions progress order) (rows-tell rate l c samples positions progress order floats)) h)

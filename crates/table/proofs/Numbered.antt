@@ -1,10 +1,11 @@
 -- A table of rows against a list of conditions in plain logic, one for each row: where each row tells its condition, the answer is that of the first condition that holds. By induction over both lists. Assumes nothing.
 use mathlib.Core.Path.{_≡_, refl, sym, _∙_}
 use mathlib.Core.Bool.{Bool, true, false, cond, false≢true}
-use mathlib.Core.List.{List, [], _∷_}
+use mathlib.Core.List.{List, [], _∷_, _++_}
 use Prim.Native.Nat.{ℕ, zero, suc, _+_, _<_}
 use native.Mathlib.Omega.{arith}
-use lib.ListN.{getD}
+use native.Mathlib.Numerals.{unary-clauses}
+use lib.ListN.{length, getD}
 use Rattle.refuse.specs.declared.answer.Answer.{Answer}
 use Rattle.refuse.specs.Answer.{numberOf, placeOf, acceptedOf}
 use Rattle.refuse.specs.Refusals.{Row, firstRow}
@@ -25,6 +26,13 @@ AllTell k [] [] = Unit {0}
 AllTell k [] (P ∷ ps) = ⊥
 AllTell k (r ∷ rs) [] = ⊥
 AllTell k (r ∷ rs) (P ∷ ps) = Tells k r P × AllTell (suc k) rs ps
+
+-- two tables, one after the other
+pub tell-both : (k : ℕ) (rs rs' : List Row) (ps ps' : List (ℕ → Type 0)) → AllTell k rs ps → AllTell (k + length rs) rs' ps' → AllTell k (rs ++ rs') (ps ++ ps')
+tell-both k [] rs' [] ps' t u = simp unary-clauses at u
+tell-both k [] rs' (P ∷ ps) ps' t u = absurd t
+tell-both k (r ∷ rs) rs' [] ps' t u = absurd t
+tell-both k (r ∷ rs) rs' (P ∷ ps) ps' t u = let e : k + suc (length rs) ≡ suc k + length rs = omega arith in (t .0, tell-both (suc k) rs rs' ps ps' (t .1) (rw e at u))
 
 -- a refusal is the nth condition's, which is the first that holds, and with no other place
 pub record Hits (k : ℕ) (ps : List (ℕ → Type 0)) (answer : Answer) : Type 0 where

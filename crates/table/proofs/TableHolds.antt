@@ -18,12 +18,12 @@ use Rattle.refuse.specs.declared.answer.Answer.the-variants.{Entry}
 use Rattle.refuse.specs.Answer.{numberOf, placeOf, acceptedOf}
 use Rattle.refuse.specs.Shape.{faultyOf}
 use Rattle.refuse.specs.Tops.{topsOf}
-use Rattle.refuse.specs.Refusals.{Row, row, outOfRange, lostAt, aheadAt, unrunFrom, badSample, stuckOf, chainRows, blockRows, answerOf}
-use Rattle.table.specs.Table.{First, Faulty, Outside, Lost, Ahead, BadSample, Stuck, conditions, Applies, Given, ByTheTable}
+use Rattle.refuse.specs.Refusals.{Row, row, firstRow, outOfRange, lostAt, aheadAt, unrunFrom, badSample, stuckOf, chainRows, blockRows, chainAnswer, answerOf}
+use Rattle.table.specs.Table.{First, Faulty, Outside, Lost, Ahead, BadSample, Stuck, chainConditions, blockConditions, conditions, Applies, Given, ByTheTable}
 use Rattle.refuse.proofs.Bools.{true-or-false}
 use Rattle.table.proofs.Stucks.{stuck-so, stuck-is}
 use Rattle.table.proofs.Plain.{first-hit, first-only, either-so, either-is, faulty-so, faulty-is, outside-so, outside-is, lost-so, lost-is, ahead-so, ahead-is, bad-so, bad-is}
-use Rattle.table.proofs.Numbered.{Tells, AllTell, Hits, hits, misses}
+use Rattle.table.proofs.Numbered.{Tells, AllTell, tell-both, Hits, hits, misses}
 
 -- ---- two kinds of rows: of a condition, with a place that is its own; and of the first place at which something is so
 module _ {k : ℕ} {answer : Answer} (number : numberOf answer ≡ k) (refusal : acceptedOf answer ≡ false) where
@@ -33,42 +33,11 @@ module _ {k : ℕ} {answer : Answer} (number : numberOf answer ≡ k) (refusal :
   first-row : (t : ℕ → Bool) (P : ℕ → Type 0) → ((i : ℕ) → t i ≡ true → P i) → ((i : ℕ) → P i → t i ≡ true) → (n : ℕ) → placeOf answer ≡ firstOf t n → Tells k (row (some t n) answer) (λ p. First P n p)
   first-row t P so is n e = record { number = number; refusal = refusal; so = λ h. rw e (first-hit t P so is n h); only = λ p h. let f = first-only t P so is n p h in (f .0, e ∙ f .1) }
 
-module _ (rate : ℕ) (l : List Stage) (c floats : ℕ) (samples : List Float) (positions progress order : List ℕ) where
-  abbrev frames : ℕ
-  frames = length samples / 2
-
-  abbrev tops : ℕ
-  tops = topsOf l c
-
-  abbrev bad : ℕ → Bool
-  bad = badSample (unrunFrom tops progress) samples
-
-  abbrev Bad : ℕ → Type 0
-  Bad = BadSample (unrunFrom tops progress) samples
-
-  abbrev stuck : ℕ
-  stuck = stuckOf tops frames progress order
-
-  abbrev answer : Answer
-  answer = answerOf rate l c floats samples positions progress order
-
-  abbrev rows : List Row
-  rows = chainRows rate l c floats ++ blockRows rate l c samples positions progress order
-
-  abbrev asks : List (ℕ → Type 0)
-  asks = conditions rate l c floats samples positions progress order
-
-  -- ---- row by row
-  stuck-row : Tells 11 (row (ltb stuck (length order)) (Entry stuck)) (Stuck tops frames progress order)
+-- ---- row by row
+module _ (rate : ℕ) (l : List Stage) (c : ℕ) where
+  chain-tells : (floats : ℕ) → AllTell 1 (chainRows rate l c floats) (chainConditions rate l c floats)
   unfolding numberOf placeOf acceptedOf
-  stuck-row = record { number = refl; refusal = refl; so = λ h. stuck-so tops frames progress order (ltb-true stuck (length order) h); only = only }
-    where
-      only : (p : ℕ) → Stuck tops frames progress order p → (ltb stuck (length order) ≡ true) × (stuck ≡ p)
-      only p h = let e = stuck-is tops frames progress order p h in (lt-ltb stuck (length order) (omega (arith, h .inside)), e)
-
-  pub rows-tell : AllTell 1 rows asks
-  unfolding numberOf placeOf acceptedOf
-  rows-tell = (
+  chain-tells floats = (
     plain-row refl refl refl (either-so rate 8000 192000 rate) (either-is rate 8000 192000 rate),
     (
       plain-row refl refl refl (ltb-true 16 c) (lt-ltb 16 c),
@@ -76,66 +45,97 @@ module _ (rate : ℕ) (l : List Stage) (c floats : ℕ) (samples : List Float) (
         first-row refl refl (faultyOf l c) (Faulty l c) (faulty-so l c) (faulty-is l c) c refl,
         (
           first-row refl refl (outOfRange l) (Outside l) (outside-so l) (outside-is l) c refl,
-          (
-            plain-row refl refl refl (ltb-true floats (startOf rate l c)) (lt-ltb floats (startOf rate l c)),
-            (
-              first-row refl refl (lostAt rate l positions) (Lost rate l positions) (lost-so rate l positions) (lost-is rate l positions) c refl,
-              (
-                plain-row refl refl refl (eqb-true (length samples % 2) 1) (eq-eqb (length samples % 2) 1),
-                (
-                  plain-row refl refl refl (ltb-true 4096 frames) (lt-ltb 4096 frames),
-                  (
-                    first-row refl refl (aheadAt frames progress) (Ahead frames progress) (ahead-so frames progress) (ahead-is frames progress) tops refl,
-                    (
-                      first-row refl refl bad Bad (bad-so (unrunFrom tops progress) samples) (bad-is (unrunFrom tops progress) samples) (length samples) refl,
-                      (stuck-row, tt),
-                    ),
-                  ),
-                ),
-              ),
-            ),
-          ),
+          (plain-row refl refl refl (ltb-true floats (startOf rate l c)) (lt-ltb floats (startOf rate l c)), tt),
         ),
       ),
     ),
   )
 
-  -- ---- the table
-  abbrev Held : ℕ → ℕ → Type 0
-  Held = Applies rate l c floats samples positions progress order
+  module _ (samples : List Float) (positions progress order : List ℕ) where
+    abbrev frames : ℕ
+    frames = length samples / 2
 
-  none : acceptedOf answer ≡ true → (n p : ℕ) → Held n p → ⊥
-  unfolding answerOf
+    abbrev tops : ℕ
+    tops = topsOf l c
+
+    abbrev bad : ℕ → Bool
+    bad = badSample (unrunFrom tops progress) samples
+
+    abbrev Bad : ℕ → Type 0
+    Bad = BadSample (unrunFrom tops progress) samples
+
+    abbrev stuck : ℕ
+    stuck = stuckOf tops frames progress order
+
+    stuck-row : Tells 11 (row (ltb stuck (length order)) (Entry stuck)) (Stuck tops frames progress order)
+    unfolding numberOf placeOf acceptedOf
+    stuck-row = record { number = refl; refusal = refl; so = λ h. stuck-so tops frames progress order (ltb-true stuck (length order) h); only = only }
+      where
+        only : (p : ℕ) → Stuck tops frames progress order p → (ltb stuck (length order) ≡ true) × (stuck ≡ p)
+        only p h = let e = stuck-is tops frames progress order p h in (lt-ltb stuck (length order) (omega (arith, h .inside)), e)
+
+    block-tells : AllTell 6 (blockRows rate l c samples positions progress order) (blockConditions rate l c samples positions progress order)
+    unfolding numberOf placeOf acceptedOf
+    block-tells = (
+      first-row refl refl (lostAt rate l positions) (Lost rate l positions) (lost-so rate l positions) (lost-is rate l positions) c refl,
+      (
+        plain-row refl refl refl (eqb-true (length samples % 2) 1) (eq-eqb (length samples % 2) 1),
+        (
+          plain-row refl refl refl (ltb-true 4096 frames) (lt-ltb 4096 frames),
+          (
+            first-row refl refl (aheadAt frames progress) (Ahead frames progress) (ahead-so frames progress) (ahead-is frames progress) tops refl,
+            (
+              first-row refl refl bad Bad (bad-so (unrunFrom tops progress) samples) (bad-is (unrunFrom tops progress) samples) (length samples) refl,
+              (stuck-row, tt),
+            ),
+          ),
+        ),
+      ),
+    )
+
+    pub rows-tell : (floats : ℕ) → AllTell 1 (chainRows rate l c floats ++ blockRows rate l c samples positions progress order) (conditions rate l c floats samples positions progress order)
+    rows-tell floats = tell-both 1 (chainRows rate l c floats) (blockRows rate l c samples positions progress order) (chainConditions rate l c floats) (blockConditions rate l c samples positions progress order) (chain-tells floats) block-tells
+
+-- ---- a table of rows that tell their conditions
+module _ (rows : List Row) (asked : List (ℕ → Type 0)) (tells : AllTell 1 rows asked) where
+  none : acceptedOf (firstRow rows) ≡ true → (n p : ℕ) → Applies asked n p → ⊥
   none h zero p q = q
-  none h (suc n) p q = misses 1 rows asks rows-tell h n p q
+  none h (suc n) p q = misses 1 rows asked tells h n p q
 
-  hit : acceptedOf answer ≡ false → Hits 1 asks answer
-  unfolding answerOf
-  hit h = hits 1 rows asks rows-tell h
-
-  module _ (x : Hits 1 asks answer) where
-    given : Given rate l c floats samples positions progress order (suc (x .n)) (placeOf answer)
+  module _ (x : Hits 1 asked (firstRow rows)) where
+    given : Given asked (suc (x .n)) (placeOf (firstRow rows))
     given = record { applies = x .holds; first = first }
       where
-        first : (n p : ℕ) → n < suc (x .n) → Held n p → ⊥
+        first : (n p : ℕ) → n < suc (x .n) → Applies asked n p → ⊥
         first zero p g q = q
         first (suc n) p g q = x .first n p (omega arith) q
 
-    number-is : numberOf answer ≡ suc (x .n)
+    number-is : numberOf (firstRow rows) ≡ suc (x .n)
     number-is = omega (arith, x .number)
 
-    same : (n p : ℕ) → Given rate l c floats samples positions progress order n p → (numberOf answer ≡ n) × (placeOf answer ≡ p)
+    same : (n p : ℕ) → Given asked n p → (numberOf (firstRow rows) ≡ n) × (placeOf (firstRow rows) ≡ p)
     same zero p g = absurd (g .applies)
     same (suc n) p g = go (decLt n (x .n)) (decLt (x .n) n)
       where
-        go : Dec (n < x .n) → Dec (x .n < n) → (numberOf answer ≡ suc n) × (placeOf answer ≡ p)
+        go : Dec (n < x .n) → Dec (x .n < n) → (numberOf (firstRow rows) ≡ suc n) × (placeOf (firstRow rows) ≡ p)
         go (yes h) k = absurd (x .first n p h (g .applies))
-        go (no h) (yes k) = absurd (g .first (suc (x .n)) (placeOf answer) (omega arith) (x .holds))
+        go (no h) (yes k) = absurd (g .first (suc (x .n)) (placeOf (firstRow rows)) (omega arith) (x .holds))
         go (no h) (no k) = let e : n ≡ x .n = omega arith in (number-is ∙ ap suc (sym e), x .only p (rw e at (g .applies)))
 
-  pub by-the-table : ByTheTable rate l c floats samples positions progress order answer
-  by-the-table = record {
+  by-rows : ByTheTable asked (firstRow rows)
+  by-rows = record {
     accepted = none;
-    refused = λ h. rw (number-is (hit h)) (given (hit h));
-    exactly = λ n p g. ⊎-elim (λ h. absurd (none h n p (g .applies))) (λ h. same (hit h) n p g) (true-or-false (acceptedOf answer));
+    refused = λ h. let x = hits 1 rows asked tells h in rw (number-is x) (given x);
+    exactly = λ n p g. ⊎-elim (λ h. absurd (none h n p (g .applies))) (λ h. same (hits 1 rows asked tells h) n p g) (true-or-false (acceptedOf (firstRow rows)));
   }
+
+module _ (rate : ℕ) (l : List Stage) (c floats : ℕ) where
+  -- of a fresh start
+  pub start-by-the-table : ByTheTable (chainConditions rate l c floats) (chainAnswer rate l c floats)
+  unfolding chainAnswer
+  start-by-the-table = by-rows (chainRows rate l c floats) (chainConditions rate l c floats) (chain-tells rate l c floats)
+
+  -- of a run
+  pub by-the-table : (samples : List Float) (positions progress order : List ℕ) → ByTheTable (conditions rate l c floats samples positions progress order) (answerOf rate l c floats samples positions progress order)
+  unfolding answerOf
+  by-the-table samples positions progress order = by-rows (chainRows rate l c floats ++ blockRows rate l c samples positions progress order) (conditions rate l c floats samples positions progress order) (rows-tell rate l c samples positions progress order floats)

@@ -2,7 +2,7 @@
 use mathlib.Core.Path.{_≡_}
 use mathlib.Core.Logic.{_⊎_}
 use mathlib.Core.Bool.{true, false}
-use mathlib.Core.List.{List, [], _∷_}
+use mathlib.Core.List.{List, [], _∷_, _++_}
 use Prim.Native.Nat.{ℕ, zero, suc, _+_, _*_, _-_, _/_, _%_, _≤_, _<_}
 use lib.ListN.{length, getD, set, take}
 use lib.Ieee.{Float, nan}
@@ -56,29 +56,38 @@ pub record Stuck (tops frames : ℕ) (progress order : List ℕ) (place : ℕ) :
   pub before : Accepted tick (OkFrom tops frames) progress (take place order)
   pub stuck : OkFrom tops frames (run tick progress (take place order)) (getD order place 0) → ⊥
 
--- ---- the table: of the rate, c stages of a list, a store of so many floats, and a block
+-- ---- the table
 
-module _ (rate : ℕ) (l : List Stage) (c floats : ℕ) (samples : List Float) (positions progress order : List ℕ) where
-  -- rows 1 to 11, each of a place
-  abbrev pub conditions : List (ℕ → Type 0)
-  conditions =
-      (λ place. ((rate < 8000) ⊎ (192000 < rate)) × (place ≡ 0))
-      ∷ (λ place. (16 < c) × (place ≡ 0))
-      ∷ (λ place. First (Faulty l c) c place)
-      ∷ (λ place. First (Outside l) c place)
-      ∷ (λ place. (floats < startOf rate l c) × (place ≡ startOf rate l c))
-      ∷ (λ place. First (Lost rate l positions) c place)
-      ∷ (λ place. (length samples % 2 ≡ 1) × (place ≡ 0))
-      ∷ (λ place. (4096 < length samples / 2) × (place ≡ 0))
-      ∷ (λ place. First (Ahead (length samples / 2) progress) (topsOf l c) place)
-      ∷ (λ place. First (BadSample (unrunFrom (topsOf l c) progress) samples) (length samples) place)
-      ∷ (λ place. Stuck (topsOf l c) (length samples / 2) progress order place)
-      ∷ []
+-- rows 1 to 5, each of a place: of the rate, c stages of a list, and a store of so many floats. A fresh start asks these alone
+abbrev pub chainConditions : ℕ → List Stage → ℕ → ℕ → List (ℕ → Type 0)
+chainConditions rate l c floats =
+    (λ place. ((rate < 8000) ⊎ (192000 < rate)) × (place ≡ 0))
+    ∷ (λ place. (16 < c) × (place ≡ 0))
+    ∷ (λ place. First (Faulty l c) c place)
+    ∷ (λ place. First (Outside l) c place)
+    ∷ (λ place. (floats < startOf rate l c) × (place ≡ startOf rate l c))
+    ∷ []
 
+-- rows 6 to 11: of the remembered positions, the samples, the progress and the order too
+abbrev pub blockConditions : ℕ → List Stage → ℕ → List Float → List ℕ → List ℕ → List ℕ → List (ℕ → Type 0)
+blockConditions rate l c samples positions progress order =
+    (λ place. First (Lost rate l positions) c place)
+    ∷ (λ place. (length samples % 2 ≡ 1) × (place ≡ 0))
+    ∷ (λ place. (4096 < length samples / 2) × (place ≡ 0))
+    ∷ (λ place. First (Ahead (length samples / 2) progress) (topsOf l c) place)
+    ∷ (λ place. First (BadSample (unrunFrom (topsOf l c) progress) samples) (length samples) place)
+    ∷ (λ place. Stuck (topsOf l c) (length samples / 2) progress order place)
+    ∷ []
+
+-- all eleven
+abbrev pub conditions : ℕ → List Stage → ℕ → ℕ → List Float → List ℕ → List ℕ → List ℕ → List (ℕ → Type 0)
+conditions rate l c floats samples positions progress order = chainConditions rate l c floats ++ blockConditions rate l c samples positions progress order
+
+module _ (asked : List (ℕ → Type 0)) where
   -- the refusal of this number, from 1 on, applies, with this place
   abbrev pub Applies : ℕ → ℕ → Type 0
   Applies zero place = ⊥
-  Applies (suc n) place = getD conditions n (λ p. ⊥) place
+  Applies (suc n) place = getD asked n (λ p. ⊥) place
 
   -- "the first that applies, in this order, is given"
   pub record Given (number place : ℕ) : Type 0 where
@@ -91,6 +100,7 @@ module _ (rate : ℕ) (l : List Stage) (c floats : ℕ) (samples : List Float) (
     pub refused : acceptedOf answer ≡ false → Given (numberOf answer) (placeOf answer)
     pub exactly : (n p : ℕ) → Given n p → (numberOf answer ≡ n) × (placeOf answer ≡ p)
 
+module _ (rate : ℕ) (l : List Stage) (c floats : ℕ) (samples : List Float) (positions progress order : List ℕ) where
   -- no row applies: what an accepted call is known to meet
   pub record Clear : Type 0 where
     pub slow : 8000 ≤ rate
