@@ -8,7 +8,7 @@ use lib.ListN.{length}
 use Rattle.line.specs.Held.{Held}
 use Rattle.order.specs.Chain.{State}
 use Rattle.stage.specs.declared.kind.Stage.{Stage}
-use Rattle.refuse.specs.Answer.{acceptedOf}
+use Rattle.answer.specs.Answer.{acceptedOf}
 use Rattle.refuse.specs.Refusals.{chainAnswer}
 use Rattle.table.specs.Table.{ByTheTable}
 use Rattle.chain.specs.Run.{answerOn, leftOf}

@@ -18,7 +18,7 @@ use Rattle.stage.specs.Kind.{ownedOf, nextOf}
 use Rattle.stage.specs.Range.{inRangeOf}
 use Rattle.stage.specs.Layout.{startOf}
 use Rattle.stage.specs.Lines.{lostOf}
-use Rattle.refuse.specs.Answer.{numberOf, placeOf}
+use Rattle.answer.specs.Answer.{numberOf, placeOf}
 use Rattle.refuse.specs.Shape.{faultyOf}
 use Rattle.refuse.specs.Tops.{topsOf}
 use Rattle.refuse.specs.Refusals.{stuckOf, answerOf}

@@ -1,6 +1,6 @@
 // What a call answers: that it was accepted, or the first refusal that applies, with its place.
 ghost use mathlib.Core.Path.{_≡_};
-ghost use Rattle.refuse.specs.Answer.{numberOf, placeOf, acceptedOf};
+ghost use Rattle.answer.specs.Answer.{numberOf, placeOf, acceptedOf};
 
 pub enum Answer {
     Accepted,

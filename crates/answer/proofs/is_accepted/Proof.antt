@@ -1,8 +1,8 @@
--- `answer::is_accepted` meets its contract: in each arm the answer is known, and the definition computes. Assumes nothing.
-use Rattle.refuse.specs.Answer.{acceptedOf}
+-- `is_accepted` meets its contract: in each arm the answer is known, and the definition computes. Assumes nothing.
+use Rattle.answer.specs.Answer.{acceptedOf}
 use borrow.Author.Needs.{needs}
-use Rattle.refuse.proofs.answer.is_accepted.Statement.{statement}
-use Rattle.refuse.proofs.answer.is_accepted.Tie as tie
+use Rattle.answer.proofs.is_accepted.Statement.{statement}
+use Rattle.answer.proofs.is_accepted.Tie as tie
 
 enum-told : tie.Need-enum-told
 enum-told c = search needs

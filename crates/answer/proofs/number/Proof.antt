@@ -1,8 +1,8 @@
--- `answer::number` meets its contract: in each arm the answer is known, and the definition computes. Assumes nothing.
-use Rattle.refuse.specs.Answer.{numberOf}
+-- `number` meets its contract: in each arm the answer is known, and the definition computes. Assumes nothing.
+use Rattle.answer.specs.Answer.{numberOf}
 use borrow.Author.Needs.{needs}
-use Rattle.refuse.proofs.answer.number.Statement.{statement}
-use Rattle.refuse.proofs.answer.number.Tie as tie
+use Rattle.answer.proofs.number.Statement.{statement}
+use Rattle.answer.proofs.number.Tie as tie
 
 enum-told : tie.Need-enum-told
 enum-told c = search needs

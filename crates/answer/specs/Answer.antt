@@ -1,8 +1,8 @@
 -- The answers, each with document 01's number and place. Definitions only.
 use mathlib.Core.Bool.{Bool, true, false}
 use Prim.Native.Nat.{ℕ}
-use Rattle.refuse.specs.declared.answer.Answer.{Answer}
-use Rattle.refuse.specs.declared.answer.Answer.the-variants.{Accepted, Rate, Stages, Shape, Setting, Store, Position, Samples, Frames, Progress, Sample, Entry}
+use Rattle.answer.specs.declared.Answer.{Answer}
+use Rattle.answer.specs.declared.Answer.the-variants.{Accepted, Rate, Stages, Shape, Setting, Store, Position, Samples, Frames, Progress, Sample, Entry}
 
 -- document 01's number; 0 for an accepted call
 unfoldable pub numberOf : Answer → ℕ

@@ -1,8 +1,8 @@
--- `answer::place` meets its contract: in each arm the answer is known, and the definition computes. Assumes nothing.
-use Rattle.refuse.specs.Answer.{placeOf}
+-- `place` meets its contract: in each arm the answer is known, and the definition computes. Assumes nothing.
+use Rattle.answer.specs.Answer.{placeOf}
 use borrow.Author.Needs.{needs}
-use Rattle.refuse.proofs.answer.place.Statement.{statement}
-use Rattle.refuse.proofs.answer.place.Tie as tie
+use Rattle.answer.proofs.place.Statement.{statement}
+use Rattle.answer.proofs.place.Tie as tie
 
 enum-told : tie.Need-enum-told
 enum-told c = search needs
