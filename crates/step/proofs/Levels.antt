@@ -13,7 +13,7 @@ use Rattle.effect.specs.VolumeControl.{volumeOf}
 use Rattle.effect.specs.PanningControl.{panningOf}
 use Rattle.effect.specs.Distortion.{distortionOf}
 use Rattle.line.specs.Held.{Ran, ran}
-use Rattle.line.specs.Reverb.{reverbOf}
+use Rattle.reverb.specs.Reverb.{reverbOf}
 use Rattle.stage.specs.declared.kind.Stage.{Stage}
 use Rattle.stage.specs.declared.kind.Stage.the-variants.{VolumeControl, PanningControl, Distortion, Filter, EqFilter, Reverb, Delay}
 use Rattle.stage.specs.Kind.{stageAt, nextOf}

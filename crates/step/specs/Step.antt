@@ -20,7 +20,7 @@ use Rattle.effect.specs.EqFilter.{eqOf}
 use Rattle.line.specs.Held.{Held, holds, joined, Ran, ran}
 use Rattle.line.specs.Position as Position
 use Rattle.line.specs.Frames.{frameAt, frameIn}
-use Rattle.line.specs.Reverb.{reverbOf}
+use Rattle.reverb.specs.Reverb.{reverbOf}
 use Rattle.stage.specs.declared.kind.Stage.{Stage}
 use Rattle.stage.specs.declared.kind.Stage.the-variants.{VolumeControl, PanningControl, Distortion, Filter, EqFilter, Reverb, Delay}
 use Rattle.stage.specs.Kind.{stageAt, nextOf}

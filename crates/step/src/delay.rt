@@ -19,7 +19,6 @@ use frame::Frame;
 use line::frames::frame_at;
 use line::frames::put_frame;
 use line::position::next_position;
-use line::reverb;
 use stage::kind::Stage;
 use stage::layout::next_place;
 use stage::layout::size_between;
