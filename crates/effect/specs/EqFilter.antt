@@ -4,8 +4,8 @@ use lib.IntN.{ℤ}
 use lib.Ieee.{Float, binary32, binary64, sub, mul, div}
 use Rattle.float.specs.Literal.{literal}
 use Rattle.float.specs.Clamp.{hundredthOf}
-use Rattle.float.specs.Narrow.{narrowOf}
-use Rattle.float.specs.Root.{sqrtOf}
+use Rattle.rounding.specs.Narrow.{narrowOf}
+use Rattle.rounding.specs.Root.{sqrtOf}
 use Rattle.decibels.specs.Amplitude.{eqAmplitudeOf}
 use Rattle.frame.specs.declared.Frame.{Frame}
 use Rattle.frame.specs.Operations.{addOf, mulOf}

@@ -2,7 +2,7 @@
 use lib.Ieee.{Float, binary32, binary64, sub, mul}
 use Rattle.float.specs.Literal.{literal}
 use Rattle.float.specs.Clamp.{unitOf}
-use Rattle.float.specs.Narrow.{narrowOf}
+use Rattle.rounding.specs.Narrow.{narrowOf}
 use Rattle.frame.specs.declared.Frame.{Frame}
 use Rattle.frame.specs.Operations.{subOf, mulOf}
 use Rattle.frame.specs.Mix.{mixOf}

@@ -8,9 +8,9 @@ use crate::integrators::run;
 use crate::integrators::weigh;
 use decibels::eq_amplitude;
 use float::clamp::at_least_hundredth_f64;
-use float::narrow::as_f32;
-use float::sqrt::sqrt_f64;
 use frame::Frame;
+use rounding::narrow::as_f32;
+use rounding::sqrt::sqrt_f64;
 
 pub enum EqFilterKind {
     Bell,

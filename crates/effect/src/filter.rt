@@ -8,8 +8,8 @@ use crate::integrators::Parts;
 use crate::integrators::run;
 use crate::integrators::weigh;
 use float::clamp::clamp_unit_f64;
-use float::narrow::as_f32;
 use frame::Frame;
+use rounding::narrow::as_f32;
 
 pub enum FilterMode {
     LowPass,

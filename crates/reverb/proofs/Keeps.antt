@@ -7,7 +7,7 @@ use lib.Ieee.{Float}
 use lib.ListN.{length-set}
 use Rattle.line.specs.AllPass.{passLineOf}
 use Rattle.line.specs.Comb.{combLineOf}
-use Rattle.line.specs.Held.{Held, joined, Ran}
+use Rattle.line.specs.Held.{Held, Ran}
 use Rattle.line.proofs.Keeps.{Same, same-refl, joined-keeps}
 use Rattle.reverb.specs.Reverb.{Heard, combOf, passOf, passesOf, combsOf, sideOf, reverbed, reverbOf}
 use Rattle.reverb.proofs.Levels.{both, fits, side-is, reverbed-is, reverb-is}
