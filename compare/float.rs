@@ -1,5 +1,6 @@
-// Holds the crate `float`, by way of the library of `compare_face`, to the machine's own operations as
-// Rust gives them: bit for bit, with every NaN counted as one. `compare/run` builds and runs it.
+// Holds the crates `float` and `rounding`, by way of the library of `compare_face`, to the machine's
+// own operations as Rust gives them: bit for bit, with every NaN counted as one. `compare/run` builds
+// and runs it.
 //
 //   float            a line for each function: how many inputs, and how many of them differ
 //   float --all      also every f32, and every tie between two neighbouring f32 (minutes)

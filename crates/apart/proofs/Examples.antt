@@ -7,7 +7,7 @@ use lib.ListN.{replicate}
 use lib.Ieee.{Float, binary32, add, sub, mul, div, lt, ofBits, toBits}
 use Rattle.float.specs.Literal.{literal}
 use Rattle.float.specs.Clamp.{unitOf}
-use Rattle.float.specs.Root.{sqrtOf}
+use Rattle.rounding.specs.Root.{sqrtOf}
 use Rattle.decibels.specs.Amplitude.{amplitudeOf}
 use Rattle.frame.specs.Operations.{addOf, mulOf}
 use Rattle.frame.specs.Mix.{mixOf}

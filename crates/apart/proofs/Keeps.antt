@@ -7,11 +7,12 @@ use lib.Dec.{ltb, leb}
 use lib.IntN.{ℤ}
 use lib.Ieee.{Float}
 use lib.ListN.{length, length-set}
-use Rattle.effect.specs.declared.integrators.Integrators.{Integrators}
-use Rattle.effect.specs.declared.filter.FilterMode.{FilterMode}
-use Rattle.effect.specs.declared.eq_filter.EqFilterKind.{EqFilterKind}
+use Rattle.integrators.specs.declared.Integrators.{Integrators}
+use Rattle.filters.specs.declared.filter.FilterMode.{FilterMode}
+use Rattle.filters.specs.declared.eq_filter.EqFilterKind.{EqFilterKind}
 use Rattle.line.specs.Held.{Held, front, Ran}
-use Rattle.line.proofs.Keeps.{Same, same-refl, joined-keeps, frame-in-keeps, reverb-keeps}
+use Rattle.line.proofs.Keeps.{Same, same-refl, joined-keeps, frame-in-keeps}
+use Rattle.reverb.proofs.Keeps.{reverb-keeps}
 use Rattle.stage.specs.declared.kind.Stage.{Stage}
 use Rattle.stage.specs.declared.kind.Stage.the-variants.{VolumeControl, PanningControl, Distortion, Filter, EqFilter, Reverb, Delay}
 use Rattle.stage.specs.Kind.{stageAt}

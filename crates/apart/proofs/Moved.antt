@@ -14,11 +14,11 @@ use Rattle.line.specs.AllPass.{passedOf}
 use Rattle.line.specs.Comb.{combedOf}
 use Rattle.line.specs.Held.{Held, front, back, joined, Ran}
 use Rattle.line.specs.Position.{nextOf}
-use Rattle.line.specs.Reverb.{Heard, combOf, passOf, passesOf, combsOf, sideOf, reverbed, reverbOf}
-use Rattle.line.specs.Tuning.{combTunings, allPassTunings, tunings, lineOf, floatsOf, lengthsOf, reverbLines, reverbFloats}
-use Rattle.line.proofs.Keeps.{side-keeps}
-use Rattle.line.proofs.Levels.{mono, both, fits, side-is, reverbed-is, reverb-is}
-use Rattle.line.proofs.Tunings.{side-floats-are, reverb-floats-are, lengths-length}
+use Rattle.reverb.specs.Reverb.{Heard, combOf, passOf, passesOf, combsOf, sideOf, reverbed, reverbOf}
+use Rattle.reverb.specs.Tuning.{combTunings, allPassTunings, tunings, lineOf, floatsOf, lengthsOf, reverbLines, reverbFloats}
+use Rattle.reverb.proofs.Keeps.{side-keeps}
+use Rattle.reverb.proofs.Levels.{mono, both, fits, side-is, reverbed-is, reverb-is}
+use Rattle.reverb.proofs.Tunings.{side-floats-are, reverb-floats-are, lengths-length}
 
 -- ---- positions on lines
 

@@ -17,7 +17,7 @@ use Rattle.order.proofs.Stretches.{length-part}
 use Rattle.line.specs.Frames.{frameAt}
 use Rattle.line.specs.Held.{front, back, joined, Ran, ran}
 use Rattle.line.specs.Position as Position
-use Rattle.line.proofs.Tunings.{lines-length}
+use Rattle.reverb.proofs.Tunings.{lines-length}
 use Rattle.stage.specs.declared.kind.Stage.{Stage}
 use Rattle.stage.specs.declared.kind.Stage.the-variants.{VolumeControl, PanningControl, Distortion, Filter, EqFilter, Reverb, Delay}
 use Rattle.stage.specs.Kind.{stageAt, nextOf}

@@ -15,7 +15,7 @@ use Rattle.order.proofs.Agree.{orders-agree}
 use Rattle.order.proofs.FrameByFrame.{frames-whole, frame-by-frame, order-renders}
 use Rattle.order.proofs.Finishing.{finishing-finishes, leaves-finishing}
 use Rattle.stage.specs.declared.kind.Stage.{Stage}
-use Rattle.refuse.specs.Answer.{acceptedOf}
+use Rattle.answer.specs.Answer.{acceptedOf}
 use Rattle.refuse.specs.Tops.{topsOf}
 use Rattle.table.proofs.Clears.{clear-of-accepted, accepted-of-clear}
 use Rattle.chain.specs.Chain.{Room, chainOf, framesOf, stepped, ordered}

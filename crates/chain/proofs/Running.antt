@@ -11,7 +11,7 @@ use Rattle.order.specs.Chain.{State}
 use Rattle.order.specs.Finish.{finishing}
 use Rattle.stage.specs.declared.kind.Stage.{Stage}
 use Rattle.refuse.specs.declared.tops.Tops.{Tops}
-use Rattle.refuse.specs.Answer.{acceptedOf}
+use Rattle.answer.specs.Answer.{acceptedOf}
 use Rattle.refuse.specs.Tops.{topsOf, topsRecord}
 use Rattle.chain.specs.Chain.{framesOf, Ready, Orderly, ordered}
 use Rattle.chain.specs.Run.{answerOn, leftOf, renderedOf}

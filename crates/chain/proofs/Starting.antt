@@ -8,7 +8,7 @@ use lib.ListN.{length}
 use borrow.Author.Tests.{ltb-false}
 use Rattle.stage.specs.declared.kind.Stage.{Stage}
 use Rattle.stage.specs.Layout.{startOf}
-use Rattle.refuse.specs.Answer.{acceptedOf}
+use Rattle.answer.specs.Answer.{acceptedOf}
 use Rattle.refuse.specs.Refusals.{chainRows, chainAnswer}
 use Rattle.refuse.proofs.Rows.{no-row}
 use Rattle.chain.specs.Start.{clearedTo, startedOf}

@@ -14,7 +14,7 @@ use Rattle.order.specs.Render.{frames, from, render}
 use Rattle.order.specs.Finish.{finishing}
 use Rattle.order.specs.Claims.{begin, Cut}
 use Rattle.stage.specs.declared.kind.Stage.{Stage}
-use Rattle.refuse.specs.Answer.{acceptedOf}
+use Rattle.answer.specs.Answer.{acceptedOf}
 use Rattle.refuse.specs.Tops.{topAt, topsOf}
 use Rattle.chain.specs.Chain.{chainOf, framesOf, replaced, stepped, Orderly, ordered}
 use Rattle.chain.specs.Run.{answerOn, leftOf, renderedOf}

@@ -8,8 +8,8 @@ use Rattle.line.specs.Held.{Held}
 use Rattle.order.specs.Chain.{State}
 use Rattle.order.specs.Finish.{finishing}
 use Rattle.stage.specs.declared.kind.Stage.{Stage}
-use Rattle.refuse.specs.declared.answer.Answer.{Answer}
-use Rattle.refuse.specs.Answer.{acceptedOf}
+use Rattle.answer.specs.declared.Answer.{Answer}
+use Rattle.answer.specs.Answer.{acceptedOf}
 use Rattle.refuse.specs.Tops.{topsOf}
 use Rattle.chain.specs.Chain.{framesOf, ordered}
 use Rattle.refuse.specs.Refusals.{answerOf}

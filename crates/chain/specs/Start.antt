@@ -7,7 +7,7 @@ use lib.ListN.{length, replicate, drop}
 use Rattle.float.specs.Literal.{literal}
 use Rattle.stage.specs.declared.kind.Stage.{Stage}
 use Rattle.stage.specs.Layout.{startOf}
-use Rattle.refuse.specs.Answer.{acceptedOf}
+use Rattle.answer.specs.Answer.{acceptedOf}
 use Rattle.refuse.specs.Refusals.{chainAnswer}
 
 -- n floats at +0, and the rest

@@ -9,7 +9,7 @@ use Rattle.line.specs.Held.{Held}
 use Rattle.order.specs.Chain.{State}
 use Rattle.stage.specs.declared.kind.Stage.{Stage}
 use Rattle.stage.specs.Layout.{startOf}
-use Rattle.refuse.specs.Answer.{acceptedOf}
+use Rattle.answer.specs.Answer.{acceptedOf}
 use Rattle.refuse.specs.Refusals.{chainAnswer}
 use Rattle.table.specs.Table.{chainConditions, conditions, ByTheTable}
 use Rattle.chain.specs.Run.{answerOn, leftOf}

@@ -6,7 +6,7 @@ ghost use Rattle.chain.specs.Run.{answerOn, renderedOf};
 use crate::advance::finish;
 use crate::memories::Memories;
 use crate::run::Outcome;
-use refuse::answer::is_accepted;
+use answer::is_accepted;
 use refuse::block::refusal;
 use refuse::tops::tops_of;
 use stage::kind::Stage;

@@ -7,7 +7,7 @@ use crate::say::volume;
 use crate::say::with;
 use chain::memories::zero;
 use effect::distortion::DistortionKind;
-use effect::eq_filter::EqFilterKind;
+use filters::eq_filter::EqFilterKind;
 use stage::kind::Stage;
 
 fn eq_filter(gain: i32) -> Stage {

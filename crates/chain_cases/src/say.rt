@@ -1,11 +1,11 @@
 // What cases share: stages, a call, and the line that is written of its answer.
+use answer::Answer;
+use answer::number;
+use answer::place;
 use chain::memories::Memories;
 use chain::memories::zero;
 use chain::run::run;
 use libc::STDOUT_FILENO;
-use refuse::answer::Answer;
-use refuse::answer::number;
-use refuse::answer::place;
 use stage::kind::Stage;
 
 pub(crate) fn volume(volume: i32) -> Stage {

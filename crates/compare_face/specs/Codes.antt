@@ -4,10 +4,10 @@ use mathlib.Core.Bool.{cond}
 use lib.Dec.{eqb}
 use Rattle.effect.specs.declared.distortion.DistortionKind.{DistortionKind}
 use Rattle.effect.specs.declared.distortion.DistortionKind.the-variants.{HardClip, SoftClip}
-use Rattle.effect.specs.declared.filter.FilterMode.{FilterMode}
-use Rattle.effect.specs.declared.filter.FilterMode.the-variants.{LowPass, BandPass, HighPass, Notch}
-use Rattle.effect.specs.declared.eq_filter.EqFilterKind.{EqFilterKind}
-use Rattle.effect.specs.declared.eq_filter.EqFilterKind.the-variants.{Bell, LowShelf, HighShelf}
+use Rattle.filters.specs.declared.filter.FilterMode.{FilterMode}
+use Rattle.filters.specs.declared.filter.FilterMode.the-variants.{LowPass, BandPass, HighPass, Notch}
+use Rattle.filters.specs.declared.eq_filter.EqFilterKind.{EqFilterKind}
+use Rattle.filters.specs.declared.eq_filter.EqFilterKind.the-variants.{Bell, LowShelf, HighShelf}
 
 abbrev pub kindAt : ℕ → DistortionKind
 kindAt code = cond (eqb code 0) HardClip SoftClip

@@ -1,9 +1,9 @@
 -- The structs of this crate, which C can read, and those of the crates below: the same numbers under the same names. Definitions only.
 use Rattle.frame.specs.declared.Frame.{Frame}
-use Rattle.effect.specs.declared.integrators.Integrators.{Integrators}
-use Rattle.effect.specs.declared.integrators.Filtered.{Filtered}
-use Rattle.effect.specs.declared.integrators.Weights.{Weights}
-use Rattle.effect.specs.declared.eq_filter.Coefficients.{Coefficients}
+use Rattle.integrators.specs.declared.Integrators.{Integrators}
+use Rattle.integrators.specs.declared.Filtered.{Filtered}
+use Rattle.integrators.specs.declared.Weights.{Weights}
+use Rattle.filters.specs.declared.eq_filter.Coefficients.{Coefficients}
 use Rattle.compare_face.specs.declared.effects.Pair.{Pair}
 use Rattle.compare_face.specs.declared.effects.Memory.{Memory}
 use Rattle.compare_face.specs.declared.effects.Answer.{Answer}

@@ -4,18 +4,18 @@ ghost use mathlib.Core.Path.{_≡_};
 ghost use Rattle.effect.specs.VolumeControl.{volumeOf};
 ghost use Rattle.effect.specs.PanningControl.{panningOf};
 ghost use Rattle.effect.specs.Distortion.{distortionOf};
-ghost use Rattle.effect.specs.Integrators.{weightsOf};
-ghost use Rattle.effect.specs.Filter.{filterOf};
-ghost use Rattle.effect.specs.EqFilter.{coefficientsOf, eqOf};
+ghost use Rattle.integrators.specs.Integrators.{weightsOf};
+ghost use Rattle.filters.specs.Filter.{filterOf};
+ghost use Rattle.filters.specs.EqFilter.{coefficientsOf, eqOf};
 ghost use Rattle.compare_face.specs.Codes.{kindAt, modeAt, eqKindAt};
 ghost use Rattle.compare_face.specs.Structs.{frameIn, pairOut, integratorsIn, answerOut, weightsOut, coefficientsOut};
 use effect::distortion::DistortionKind;
-use effect::eq_filter::Coefficients;
-use effect::eq_filter::EqFilterKind;
-use effect::filter::FilterMode;
-use effect::integrators::Filtered;
-use effect::integrators::Integrators;
+use filters::eq_filter::Coefficients;
+use filters::eq_filter::EqFilterKind;
+use filters::filter::FilterMode;
 use frame::Frame;
+use integrators::Filtered;
+use integrators::Integrators;
 
 #[repr(C)]
 pub struct Pair {
@@ -175,7 +175,7 @@ pub extern "C" fn sedhavil_filter(
 ) -> Answer
     ensures { λ r. ⌜ r ≡ answerOut (filterOf (modeAt mode) g resonance mix (integratorsIn memory) (frameIn input)) ⌝ }
 {
-    answer_out(effect::filter::process(
+    answer_out(filters::filter::process(
         frame_in(input),
         integrators_in(memory),
         mode_at(mode),
@@ -196,7 +196,7 @@ pub extern "C" fn sedhavil_eq_filter(
 ) -> Answer
     ensures { λ r. ⌜ r ≡ answerOut (eqOf (eqKindAt kind) g q gain (integratorsIn memory) (frameIn input)) ⌝ }
 {
-    answer_out(effect::eq_filter::process(
+    answer_out(filters::eq_filter::process(
         frame_in(input),
         integrators_in(memory),
         eq_kind_at(kind),
@@ -210,7 +210,7 @@ pub extern "C" fn sedhavil_eq_filter(
 pub extern "C" fn sedhavil_weigh(g: f64, k: f64) -> Three
     ensures { λ r. ⌜ r ≡ weightsOut (weightsOf g k) ⌝ }
 {
-    let w = effect::integrators::weigh(g, k);
+    let w = integrators::weigh(g, k);
     Three {
         a1: w.a1,
         a2: w.a2,

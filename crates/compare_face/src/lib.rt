@@ -2,8 +2,8 @@
 // that one does. compare/ holds them to Rust's own operations.
 ghost use mathlib.Core.Path.{_≡_};
 ghost use lib.Ieee.{binary32, binary64};
-ghost use Rattle.float.specs.Root.{sqrtOf};
-ghost use Rattle.float.specs.Narrow.{narrowOf};
+ghost use Rattle.rounding.specs.Root.{sqrtOf};
+ghost use Rattle.rounding.specs.Narrow.{narrowOf};
 ghost use Rattle.float.specs.Clamp.{absOf, unitOf, bothOf, hundredthOf};
 ghost use Rattle.decibels.specs.Amplitude.{amplitudeOf, eqAmplitudeOf};
 
@@ -13,21 +13,21 @@ pub mod effects;
 pub extern "C" fn sedhavil_sqrt_f32(x: f32) -> f32
     ensures { λ r. ⌜ r ≡ sqrtOf binary32 x ⌝ }
 {
-    float::sqrt::sqrt_f32(x)
+    rounding::sqrt::sqrt_f32(x)
 }
 
 #[no_mangle]
 pub extern "C" fn sedhavil_sqrt_f64(x: f64) -> f64
     ensures { λ r. ⌜ r ≡ sqrtOf binary64 x ⌝ }
 {
-    float::sqrt::sqrt_f64(x)
+    rounding::sqrt::sqrt_f64(x)
 }
 
 #[no_mangle]
 pub extern "C" fn sedhavil_as_f32(x: f64) -> f32
     ensures { λ r. ⌜ r ≡ narrowOf binary32 x ⌝ }
 {
-    float::narrow::as_f32(x)
+    rounding::narrow::as_f32(x)
 }
 
 #[no_mangle]

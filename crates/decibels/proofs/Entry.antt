@@ -9,9 +9,10 @@ use lib.Dec.{T, leb, ltb, leb→le, ltb→lt}
 use lib.Pow.{pow-pos}
 use lib.Ieee.{Format, prec, low, hid, ones, ofBits, units}
 use lib.Ieee.Fits.{and-l, and-r}
-use Rattle.float.specs.Nearest.{Nearest}
-use Rattle.float.proofs.Kept.{Kept, kept-nearest}
-use Rattle.float.proofs.Pack.{pack, hid-twice}
+use Rattle.nearest.specs.Nearest.{Nearest}
+use Rattle.nearest.proofs.Kept.{Kept, kept-nearest}
+use Rattle.float.proofs.Fields.{hid-twice}
+use Rattle.rounding.proofs.Pack.{pack}
 
 -- the digits of the normal number whose bits are b, of which the first is not stored, and how many units of the format's smallest value the last counts: 2 ^ drop
 abbrev digits : Format → ℕ → ℕ

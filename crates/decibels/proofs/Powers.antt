@@ -12,7 +12,7 @@ use lib.Signed.{_≤ℤ_}
 use lib.ListN.{getD}
 use lib.Ieee.{Float, nan, Format, ofBits}
 use borrow.Author.Tests.{lt-ltb}
-use Rattle.float.specs.Nearest.{Nearest, Nearer, sum, product}
+use Rattle.nearest.specs.Nearest.{Nearest, Nearer, sum, product}
 use Rattle.decibels.proofs.Places.{entryOf}
 
 -- n and d may have a common factor

@@ -1,4 +1,4 @@
--- Each entry of the two tables is the float nearest to its power of ten: one test, computed at every entry, and the law of Entry.antt, that makes of it the rule of float's specs/Nearest.antt. Assumes nothing.
+-- Each entry of the two tables is the float nearest to its power of ten: one test, computed at every entry, and the law of Entry.antt, that makes of it the rule of specs/Nearest.antt of crate `nearest`. Assumes nothing.
 use mathlib.Core.Path.{subst}
 use mathlib.Core.Bool.{false}
 use Prim.Native.Nat.{ℕ, _^_, _<_}
@@ -8,7 +8,7 @@ use lib.Signed.{_≤ℤ_}
 use lib.ListN.{getD}
 use lib.Ieee.{nan, binary32, binary64, ofBits}
 use Rattle.float.specs.Literal.{literal}
-use Rattle.float.specs.Nearest.{Nearest}
+use Rattle.nearest.specs.Nearest.{Nearest}
 use Rattle.decibels.specs.Amplitude.{amplitudes, eqAmplitudes, amplitudeOf, eqAmplitudeOf}
 use Rattle.decibels.proofs.Places.{amplitude-entry, eq-amplitude-entry}
 use Rattle.decibels.proofs.Table.{all, each}

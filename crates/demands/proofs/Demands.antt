@@ -1,4 +1,4 @@
--- The three demands, in the user's words, each closed by the name of its proof. The statements are definitions of crate `chain` (specs/Table.antt, specs/Demands.antt), about what its public functions answer and leave; those of square root, narrowing and amplitudes are of crate `float` (specs/Nearest.antt). Assumes nothing.
+-- The three demands, in the user's words, each closed by the name of its proof. The statements are definitions of crate `chain` (specs/Table.antt, specs/Demands.antt), about what its public functions answer and leave; those of square root, narrowing and amplitudes are of crate `nearest` (specs/Nearest.antt). Assumes nothing.
 use Prim.Native.Nat.{ℕ, _*_}
 use mathlib.Core.Path.{_≡_}
 use mathlib.Core.Bool.{Bool, false}
@@ -7,10 +7,10 @@ use lib.IntN.{ℤ, pos, negsuc}
 use lib.Signed.{_≤ℤ_}
 use lib.Ieee.{Float, fin, Format, binary32, binary64, up, down, fits}
 use lib.Ieee.Positive.{num, den, positive}
-use Rattle.float.specs.Nearest.{Nearest}
-use Rattle.float.specs.Root.{sqrtOf}
-use Rattle.float.specs.Narrow.{narrowOf}
-use Rattle.float.proofs.Evidence as Evidence
+use Rattle.nearest.specs.Nearest.{Nearest}
+use Rattle.rounding.specs.Root.{sqrtOf}
+use Rattle.rounding.specs.Narrow.{narrowOf}
+use Rattle.nearest.proofs.Evidence as Evidence
 use Rattle.decibels.specs.Amplitude.{amplitudeOf, eqAmplitudeOf}
 use Rattle.decibels.proofs.Powers.{NearestPower}
 use Rattle.decibels.proofs.Tables as Tables

@@ -5,7 +5,7 @@ use lib.IntN.{pos}
 use lib.Ieee.{binary32, add, sub, mul, div, lt, ofBits}
 use Rattle.float.specs.Literal.{literal}
 use Rattle.float.specs.Clamp.{unitOf, bothOf, absOf}
-use Rattle.float.specs.Root.{sqrtOf}
+use Rattle.rounding.specs.Root.{sqrtOf}
 use Rattle.decibels.specs.Amplitude.{amplitudeOf}
 use Rattle.frame.specs.declared.Frame.{Frame}
 use Rattle.frame.specs.Operations.{fromMonoOf, addOf, mulOf, divOf}

@@ -1,4 +1,2 @@
-pub mod Plain
-pub mod Records
 pub mod OneOutcome
 pub mod Examples

@@ -1,13 +1,13 @@
 -- What each branch of a clamp gives, at any bounds, and the cases of `abs`. Assumes nothing.
 use mathlib.Core.Path.{_≡_, refl, sym, ap, _∙_}
-use mathlib.Core.Bool.{Bool, true, false, not, _&&_, _||_, cond, Bool·beq, true≢false, false≢true}
-use Prim.Native.Nat.{ℕ, zero, suc, _+_, _*_, _^_, _≤_, _<_}
-use native.Mathlib.Nat.{zero-lt-suc, zero-mul, mul-one, mul-pos, lt-irrefl, lt-of-lt-of-le, le-of-eq, le-trans, one-mul}
+use mathlib.Core.Bool.{Bool, true, false, _||_, cond, Bool·beq, true≢false, false≢true}
+use Prim.Native.Nat.{ℕ, zero, suc, _+_, _*_, _^_, _<_}
+use native.Mathlib.Nat.{zero-lt-suc, zero-mul, mul-one, mul-pos, one-mul}
 use native.Mathlib.Omega.{arith}
-use lib.Pow.{pow-pos, pow-lt}
+use lib.Pow.{pow-lt}
 use lib.IntN.{ℤ, pos, negsuc}
-use lib.Dec.{T, ltb, eqb, eqb→eq, ltb→lt}
-use borrow.Author.Tests.{ltb-false, eqb-true, ltb-true, lt-ltb}
+use lib.Dec.{T, eqb, eqb→eq, ltb→lt}
+use borrow.Author.Tests.{lt-ltb}
 use lib.Ieee.{Float, nan, inf, fin, Format, up, down, fits, lt, eq, level, neg, ofBits}
 use lib.Ieee.Fits.{up-pos, and-l}
 use Rattle.float.specs.Clamp.{clampOf, absOf}

@@ -10,7 +10,7 @@ use borrow.Author.Tests.{lt-ltb, le-ltb}
 use lib.Ieee.{Float, nan, inf, fin, Format, binary32, binary64, hid, ones, top, fits, toBits}
 use Rattle.float.specs.Finite.{finiteOf}
 use Rattle.float.proofs.Cases.{finite-bits}
-use Rattle.float.proofs.RootLaw.{inside}
+use Rattle.float.proofs.Patterns.{inside}
 
 -- the bits of a value and of its opposite differ by the sign
 unsigned : (f : Format) (s : Bool) (m : ℕ) (e : ℤ) → toBits f (fin s m e) ≡ cond s (top f) 0 + toBits f (fin false m e)

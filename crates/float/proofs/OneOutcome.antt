@@ -1,20 +1,9 @@
 -- Each public function's promise admits one outcome. Assumes nothing.
 use mathlib.Core.Path.{sym, _∙_}
 use Rattle.float.proofs.Outcome.{Single}
-use Rattle.float.proofs.sqrt as sqrt
-use Rattle.float.proofs.narrow as narrow
 use Rattle.float.proofs.bits as bits
 use Rattle.float.proofs.clamp as clamp
 use Rattle.float.proofs.finite as finite
-
-pub sqrt-f32-single : Single sqrt.sqrt_f32.Reads.Post
-sqrt-f32-single κs a r r' s s' p q = p ∙ sym q
-
-pub sqrt-f64-single : Single sqrt.sqrt_f64.Reads.Post
-sqrt-f64-single κs a r r' s s' p q = p ∙ sym q
-
-pub as-f32-single : Single narrow.as_f32.Reads.Post
-as-f32-single κs a r r' s s' p q = p ∙ sym q
 
 pub to-bits-f32-single : Single bits.to_bits_f32.Reads.Post
 to-bits-f32-single κs a r r' s s' p q = p ∙ sym q

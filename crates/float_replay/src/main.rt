@@ -1,4 +1,4 @@
-// Runs the crate `float` on a sample of Rust's own answers (sample.rt), and writes how many of each
+// Runs the crate `rounding` on a sample of Rust's own answers (sample.rt), and writes how many of each
 // table agree, bit for bit with every NaN counted as one, and at which indices it does not.
 mod sample;
 
@@ -19,21 +19,21 @@ fn sqrt_f32_agrees(i: usize) -> bool
     requires { ⌜ i < 100 ⌝ }
 {
     let x = sample::SQRT_F32_INPUTS[i];
-    to_bits_f32(float::sqrt::sqrt_f32(from_bits_f32(x))) == sample::SQRT_F32_ANSWERS[i]
+    to_bits_f32(rounding::sqrt::sqrt_f32(from_bits_f32(x))) == sample::SQRT_F32_ANSWERS[i]
 }
 
 fn sqrt_f64_agrees(i: usize) -> bool
     requires { ⌜ i < 100 ⌝ }
 {
     let x = sample::SQRT_F64_INPUTS[i];
-    to_bits_f64(float::sqrt::sqrt_f64(from_bits_f64(x))) == sample::SQRT_F64_ANSWERS[i]
+    to_bits_f64(rounding::sqrt::sqrt_f64(from_bits_f64(x))) == sample::SQRT_F64_ANSWERS[i]
 }
 
 fn as_f32_agrees(i: usize) -> bool
     requires { ⌜ i < 100 ⌝ }
 {
     let x = sample::AS_F32_INPUTS[i];
-    to_bits_f32(float::narrow::as_f32(from_bits_f64(x))) == sample::AS_F32_ANSWERS[i]
+    to_bits_f32(rounding::narrow::as_f32(from_bits_f64(x))) == sample::AS_F32_ANSWERS[i]
 }
 
 fn agrees(operation: Operation, i: usize) -> bool

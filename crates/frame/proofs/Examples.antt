@@ -4,7 +4,7 @@ use Prim.Native.Nat.{ℕ, _-_, _^_}
 use lib.Ieee.{Float, binary32, sub, mul, neg, lt, eq, round, ofBits, toBits}
 use Rattle.float.specs.Literal.{literal}
 use Rattle.float.specs.Clamp.{bothOf}
-use Rattle.float.specs.Root.{sqrtOf}
+use Rattle.rounding.specs.Root.{sqrtOf}
 use Rattle.frame.specs.declared.Frame.{Frame}
 use Rattle.frame.specs.Operations.{fromMonoOf, mulOf}
 use Rattle.frame.specs.Panning.{pannedOf, sqrt2}

@@ -2,7 +2,7 @@
 use lib.Ieee.{Float, binary32, sub}
 use Rattle.float.specs.Literal.{literal}
 use Rattle.float.specs.Clamp.{unitOf}
-use Rattle.float.specs.Root.{sqrtOf}
+use Rattle.rounding.specs.Root.{sqrtOf}
 use Rattle.frame.specs.declared.Frame.{Frame}
 use Rattle.frame.specs.Operations.{addOf, mulOf}
 

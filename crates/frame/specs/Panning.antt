@@ -3,7 +3,7 @@ use mathlib.Core.Bool.{cond}
 use lib.Ieee.{Float, binary32, add, sub, mul, eq, ofBits}
 use Rattle.float.specs.Literal.{literal}
 use Rattle.float.specs.Clamp.{bothOf}
-use Rattle.float.specs.Root.{sqrtOf}
+use Rattle.rounding.specs.Root.{sqrtOf}
 use Rattle.frame.specs.declared.Frame.{Frame}
 use Rattle.frame.specs.Operations.{mulOf}
 

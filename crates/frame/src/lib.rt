@@ -7,7 +7,7 @@ ghost use Rattle.frame.specs.Mix.{mixOf};
 ghost use Rattle.frame.specs.Panning.{pannedOf};
 use float::clamp::clamp_both_f32;
 use float::clamp::clamp_unit_f32;
-use float::sqrt::sqrt_f32;
+use rounding::sqrt::sqrt_f32;
 
 pub struct Frame {
     pub left: f32,

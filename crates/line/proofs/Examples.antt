@@ -1,4 +1,4 @@
--- Document 01's P6, P10 and P11, worked out by antt on the definitions. Assumes nothing.
+-- Document 01's P10 and P11, worked out by antt on the definitions. Assumes nothing.
 use mathlib.Core.Path.{_≡_, refl}
 use mathlib.Core.List.{List, [], _∷_}
 use Prim.Native.Nat.{ℕ}
@@ -7,17 +7,6 @@ use Rattle.float.specs.Literal.{literal}
 use Rattle.line.specs.Position.{nextOf}
 use Rattle.line.specs.AllPass.{passedOf, passLineOf}
 use Rattle.line.specs.Comb.{storeOf, combedOf, combLineOf}
-use Rattle.line.specs.Tuning.{lengthOf, reverbFloats}
-
--- lines at 48,000 Hz
-pub P6 : (lengthOf 441 48000 ∷ lengthOf 1617 48000 ∷ lengthOf 1116 48000 ∷ []) ≡ (480 ∷ 1760 ∷ 1214 ∷ [])
-unfolding lengthOf
-P6 = refl
-
--- all 24 lines at 44,100 Hz
-pub reverb-at-44100 : reverbFloats 44100 ≡ 25450
-unfolding reverbFloats
-reverb-at-44100 = refl
 
 abbrev number : ℕ → Float
 number n = literal binary32 n 1

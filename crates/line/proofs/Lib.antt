@@ -1,8 +1,4 @@
-pub mod Tunings
 pub mod Lent
-pub mod InTurn
-pub mod Levels
-pub mod Sides
 pub mod Keeps
 pub mod Outcome
 pub mod OneOutcome

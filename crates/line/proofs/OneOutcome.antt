@@ -2,26 +2,14 @@
 use mathlib.Core.Path.{refl, sym, _∙_}
 use denote.Ref.{now}
 use Rattle.float.proofs.Outcome.{Single}
-use Rattle.line.specs.Held.{holds}
 use Rattle.line.proofs.Outcome.{SingleLent}
 use Rattle.line.proofs.position as position
 use Rattle.line.proofs.comb as comb
 use Rattle.line.proofs.all_pass as all-pass
 use Rattle.line.proofs.frames as frames
-use Rattle.line.proofs.tuning as tuning
-use Rattle.line.proofs.reverb as reverb
 
 pub next-position-single : Single position.next_position.Reads.Post
 next-position-single κs a r r' s s' p q = p ∙ sym q
-
-pub line-length-single : Single tuning.line_length.Reads.Post
-line-length-single κs a r r' s s' p q = p ∙ sym q
-
-pub reverb-line-single : Single tuning.reverb_line.Reads.Post
-reverb-line-single κs a r r' s s' p q = p ∙ sym q
-
-pub reverb-floats-single : Single tuning.reverb_floats.Reads.Post
-reverb-floats-single κs a r r' s s' p q = p ∙ sym q
 
 pub frame-at-single : Single frames.frame_at.Reads.Post
 frame-at-single κs a r r' s s' p q = p ∙ sym q
@@ -34,6 +22,3 @@ comb-single κs a r r' s s' p q = (p .0 ∙ sym (q .0), p .1 ∙ sym (q .1))
 
 pub all-pass-single : SingleLent all-pass.process.Reads.Post (λ κs s. now (s .0))
 all-pass-single κs a r r' s s' p q = (p .0 ∙ sym (q .0), p .1 ∙ sym (q .1))
-
-pub reverb-single : SingleLent reverb.process.Reads.Post (λ κs s. holds (now (s .1 .1 .1 .1 .1 .1 .0)) (now (s .1 .1 .1 .1 .1 .1 .1 .0)) (now (s .1 .1 .1 .1 .1 .1 .1 .1 .0)))
-reverb-single κs a r r' s s' p q = let w = p ∙ sym q in ((λ i. w i .frame), (λ i. w i .held))

@@ -3,5 +3,3 @@ pub mod Position
 pub mod Comb
 pub mod AllPass
 pub mod Frames
-pub mod Tuning
-pub mod Reverb

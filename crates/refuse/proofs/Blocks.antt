@@ -11,8 +11,8 @@ use borrow.Author.Tests.{lt-ltb, le-ltb, ltb-false, eq-eqb, ne-eqb}
 use Rattle.stage.specs.declared.kind.Stage.{Stage}
 use Rattle.stage.specs.First.{firstOf}
 use Rattle.stage.proofs.Firsts.{first-clear}
-use Rattle.refuse.specs.declared.answer.Answer.{Answer}
-use Rattle.refuse.specs.declared.answer.Answer.the-variants.{Accepted, Position, Samples, Frames, Progress, Sample, Entry}
+use Rattle.answer.specs.declared.Answer.{Answer}
+use Rattle.answer.specs.declared.Answer.the-variants.{Accepted, Position, Samples, Frames, Progress, Sample, Entry}
 use Rattle.refuse.specs.Tops.{topsOf}
 use Rattle.refuse.specs.Refusals.{lostAt, aheadAt, unrunFrom, badSample, stuckOf, blockAnswer}
 

@@ -10,7 +10,7 @@ use Rattle.stage.specs.declared.kind.Stage.{Stage}
 use Rattle.stage.specs.First.{firstOf}
 use Rattle.stage.specs.Layout.{startOf, startsOf}
 use Rattle.stage.proofs.Starts.{starts-at}
-use Rattle.refuse.specs.declared.answer.Answer.the-variants.{Accepted, Rate, Stages, Shape, Setting, Store}
+use Rattle.answer.specs.declared.Answer.the-variants.{Accepted, Rate, Stages, Shape, Setting, Store}
 use Rattle.refuse.specs.Shape.{faultyOf}
 use Rattle.refuse.specs.Refusals.{outOfRange, chainAnswer}
 

@@ -1,19 +1,9 @@
 -- Each public function's promise admits one outcome. `refusal` is lent its samples and its order by `&`, which it cannot change, so there too a caller sees the result and nothing else. Assumes nothing.
 use mathlib.Core.Path.{sym, _∙_}
 use Rattle.float.proofs.Outcome.{Single}
-use Rattle.refuse.proofs.answer as answer
 use Rattle.refuse.proofs.block as block
 use Rattle.refuse.proofs.check as check
 use Rattle.refuse.proofs.tops as tops
-
-pub number-single : Single answer.number.Reads.Post
-number-single κs a r r' s s' p q = p ∙ sym q
-
-pub place-single : Single answer.place.Reads.Post
-place-single κs a r r' s s' p q = p ∙ sym q
-
-pub is-accepted-single : Single answer.is_accepted.Reads.Post
-is-accepted-single κs a r r' s s' p q = p ∙ sym q
 
 pub check-chain-single : Single check.check_chain.Reads.Post
 check-chain-single κs a r r' s s' p q = p ∙ sym q

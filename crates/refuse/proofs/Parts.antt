@@ -7,7 +7,7 @@ use lib.Ieee.{Float}
 use borrow.Author.Tests.{ltb-false}
 use Rattle.stage.specs.declared.kind.Stage.{Stage}
 use Rattle.stage.specs.Layout.{startOf}
-use Rattle.refuse.specs.Answer.{acceptedOf}
+use Rattle.answer.specs.Answer.{acceptedOf}
 use Rattle.refuse.specs.Refusals.{chainRows, blockRows, chainAnswer, blockAnswer, answerOf}
 use Rattle.refuse.proofs.Rows.{Refusing, NoRow, no-row, first-refused, first-passed}
 

@@ -2,8 +2,8 @@
 use mathlib.Core.Path.{_≡_, refl, sym, _∙_}
 use mathlib.Core.Bool.{Bool, true, false, cond, false≢true}
 use mathlib.Core.List.{List, [], _∷_, _++_}
-use Rattle.refuse.specs.declared.answer.Answer.the-variants.{Accepted}
-use Rattle.refuse.specs.Answer.{acceptedOf}
+use Rattle.answer.specs.declared.Answer.the-variants.{Accepted}
+use Rattle.answer.specs.Answer.{acceptedOf}
 use Rattle.refuse.specs.Refusals.{Row, firstRow}
 
 -- each row's answer is a refusal

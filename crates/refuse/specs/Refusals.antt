@@ -13,8 +13,8 @@ use Rattle.stage.specs.First.{firstOf, some}
 use Rattle.stage.specs.Range.{inRangeOf}
 use Rattle.stage.specs.Lines.{lostOf}
 use Rattle.stage.specs.Layout.{startOf, placePositions}
-use Rattle.refuse.specs.declared.answer.Answer.{Answer}
-use Rattle.refuse.specs.declared.answer.Answer.the-variants.{Accepted, Rate, Stages, Shape, Setting, Store, Position, Samples, Frames, Progress, Sample, Entry}
+use Rattle.answer.specs.declared.Answer.{Answer}
+use Rattle.answer.specs.declared.Answer.the-variants.{Accepted, Rate, Stages, Shape, Setting, Store, Position, Samples, Frames, Progress, Sample, Entry}
 use Rattle.refuse.specs.Shape.{faultyOf}
 use Rattle.refuse.specs.Tops.{topsOf}
 

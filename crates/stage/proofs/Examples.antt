@@ -7,10 +7,10 @@ use lib.IntN.{ℤ, pos, negsuc}
 use lib.Ieee.{Float, nan, fin, binary32, binary64, le}
 use Rattle.float.specs.Literal.{literal}
 use Rattle.float.specs.Finite.{finiteOf}
-use Rattle.line.specs.Tuning.{reverbLines, reverbFloats}
+use Rattle.reverb.specs.Tuning.{reverbLines, reverbFloats}
 use Rattle.effect.specs.declared.distortion.DistortionKind.the-variants.{HardClip}
-use Rattle.effect.specs.declared.filter.FilterMode.the-variants.{LowPass}
-use Rattle.effect.specs.declared.eq_filter.EqFilterKind.the-variants.{Bell}
+use Rattle.filters.specs.declared.filter.FilterMode.the-variants.{LowPass}
+use Rattle.filters.specs.declared.eq_filter.EqFilterKind.the-variants.{Bell}
 use Rattle.stage.specs.declared.kind.Stage.{Stage}
 use Rattle.stage.specs.declared.kind.Stage.the-variants.{PanningControl, Distortion, Filter, EqFilter, Reverb, Delay}
 use Rattle.stage.specs.First.{firstFrom}

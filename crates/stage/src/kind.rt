@@ -2,8 +2,8 @@
 ghost use mathlib.Core.Path.{_≡_};
 ghost use Rattle.stage.specs.Kind.{ownedOf};
 use effect::distortion::DistortionKind;
-use effect::eq_filter::EqFilterKind;
-use effect::filter::FilterMode;
+use filters::eq_filter::EqFilterKind;
+use filters::filter::FilterMode;
 
 pub enum Stage {
     VolumeControl {

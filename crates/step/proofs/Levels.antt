@@ -7,13 +7,13 @@ use lib.Dec.{ltb, leb}
 use lib.IntN.{ℤ}
 use lib.Ieee.{Float}
 use Rattle.effect.specs.declared.distortion.DistortionKind.{DistortionKind}
-use Rattle.effect.specs.declared.filter.FilterMode.{FilterMode}
-use Rattle.effect.specs.declared.eq_filter.EqFilterKind.{EqFilterKind}
+use Rattle.filters.specs.declared.filter.FilterMode.{FilterMode}
+use Rattle.filters.specs.declared.eq_filter.EqFilterKind.{EqFilterKind}
 use Rattle.effect.specs.VolumeControl.{volumeOf}
 use Rattle.effect.specs.PanningControl.{panningOf}
 use Rattle.effect.specs.Distortion.{distortionOf}
 use Rattle.line.specs.Held.{Ran, ran}
-use Rattle.line.specs.Reverb.{reverbOf}
+use Rattle.reverb.specs.Reverb.{reverbOf}
 use Rattle.stage.specs.declared.kind.Stage.{Stage}
 use Rattle.stage.specs.declared.kind.Stage.the-variants.{VolumeControl, PanningControl, Distortion, Filter, EqFilter, Reverb, Delay}
 use Rattle.stage.specs.Kind.{stageAt, nextOf}

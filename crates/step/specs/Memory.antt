@@ -1,7 +1,7 @@
 -- The two frames that a filter or an EQ remembers, among a place's floats: after the 16 of a reverb's combs. Definitions only.
 use mathlib.Core.List.{List}
 use lib.Ieee.{Float}
-use Rattle.effect.specs.declared.integrators.Integrators.{Integrators}
+use Rattle.integrators.specs.declared.Integrators.{Integrators}
 use Rattle.line.specs.Frames.{frameAt, frameIn}
 
 unfoldable pub remembered : List Float → Integrators

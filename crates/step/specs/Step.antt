@@ -10,17 +10,17 @@ use Rattle.decibels.specs.Amplitude.{amplitudeOf}
 use Rattle.frame.specs.declared.Frame.{Frame}
 use Rattle.frame.specs.Operations.{addOf, mulOf}
 use Rattle.frame.specs.Mix.{mixOf}
-use Rattle.effect.specs.declared.filter.FilterMode.{FilterMode}
-use Rattle.effect.specs.declared.eq_filter.EqFilterKind.{EqFilterKind}
+use Rattle.filters.specs.declared.filter.FilterMode.{FilterMode}
+use Rattle.filters.specs.declared.eq_filter.EqFilterKind.{EqFilterKind}
 use Rattle.effect.specs.VolumeControl.{volumeOf}
 use Rattle.effect.specs.PanningControl.{panningOf}
 use Rattle.effect.specs.Distortion.{distortionOf}
-use Rattle.effect.specs.Filter.{filterOf}
-use Rattle.effect.specs.EqFilter.{eqOf}
+use Rattle.filters.specs.Filter.{filterOf}
+use Rattle.filters.specs.EqFilter.{eqOf}
 use Rattle.line.specs.Held.{Held, holds, joined, Ran, ran}
 use Rattle.line.specs.Position as Position
 use Rattle.line.specs.Frames.{frameAt, frameIn}
-use Rattle.line.specs.Reverb.{reverbOf}
+use Rattle.reverb.specs.Reverb.{reverbOf}
 use Rattle.stage.specs.declared.kind.Stage.{Stage}
 use Rattle.stage.specs.declared.kind.Stage.the-variants.{VolumeControl, PanningControl, Distortion, Filter, EqFilter, Reverb, Delay}
 use Rattle.stage.specs.Kind.{stageAt, nextOf}

@@ -2,7 +2,7 @@
 // that a reverb's combs use: as frames they are the eighth and the ninth.
 ghost use mathlib.Core.Path.{_≡_};
 ghost use Rattle.step.specs.Memory.{remembered, remember};
-use effect::integrators::Integrators;
+use integrators::Integrators;
 use line::frames::frame_at;
 use line::frames::put_frame;
 

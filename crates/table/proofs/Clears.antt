@@ -17,8 +17,8 @@ use Rattle.stage.specs.Layout.{startOf, placePositions}
 use Rattle.stage.specs.Lines.{linesOf}
 use Rattle.stage.specs.Range.{inRangeOf}
 use Rattle.stage.proofs.Firsts.{none-clear}
-use Rattle.refuse.specs.declared.answer.Answer.the-variants.{Accepted}
-use Rattle.refuse.specs.Answer.{acceptedOf}
+use Rattle.answer.specs.declared.Answer.the-variants.{Accepted}
+use Rattle.answer.specs.Answer.{acceptedOf}
 use Rattle.refuse.specs.Shape.{faultyOf}
 use Rattle.refuse.specs.Tops.{topsOf}
 use Rattle.refuse.specs.Refusals.{Row, outOfRange, lostAt, aheadAt, unrunFrom, badSample, stuckOf, chainRows, blockRows, answerOf}

@@ -10,7 +10,7 @@ use lib.ListN.{length, replicate}
 use lib.Ieee.{Float, fin, le}
 use Rattle.float.specs.Literal.{literal}
 use Rattle.float.specs.Finite.{finiteOf}
-use Rattle.line.specs.Tuning.{reverbFloats, reverbLines}
+use Rattle.reverb.specs.Tuning.{reverbFloats, reverbLines}
 use Rattle.stage.specs.declared.kind.Stage.{Stage}
 use Rattle.stage.specs.declared.kind.Stage.the-variants.{VolumeControl, Reverb, Delay}
 use Rattle.stage.specs.First.{firstFrom}
@@ -18,7 +18,7 @@ use Rattle.stage.specs.Kind.{ownedOf, nextOf}
 use Rattle.stage.specs.Range.{inRangeOf}
 use Rattle.stage.specs.Layout.{startOf}
 use Rattle.stage.specs.Lines.{lostOf}
-use Rattle.refuse.specs.Answer.{numberOf, placeOf}
+use Rattle.answer.specs.Answer.{numberOf, placeOf}
 use Rattle.refuse.specs.Shape.{faultyOf}
 use Rattle.refuse.specs.Tops.{topsOf}
 use Rattle.refuse.specs.Refusals.{stuckOf, answerOf}

@@ -14,8 +14,8 @@ use Rattle.stage.specs.Kind.{stageAt}
 use Rattle.stage.specs.Layout.{startOf, placePositions}
 use Rattle.stage.specs.Lines.{linesOf}
 use Rattle.stage.specs.Range.{inRangeOf}
-use Rattle.refuse.specs.declared.answer.Answer.{Answer}
-use Rattle.refuse.specs.Answer.{numberOf, placeOf, acceptedOf}
+use Rattle.answer.specs.declared.Answer.{Answer}
+use Rattle.answer.specs.Answer.{numberOf, placeOf, acceptedOf}
 use Rattle.refuse.specs.Shape.{lastOf, depthOf}
 use Rattle.refuse.specs.Tops.{topsOf}
 use Rattle.refuse.specs.Refusals.{unrunFrom}

@@ -5,7 +5,7 @@ use lib.Ieee.{Float}
 use lib.ListN.{length}
 use Rattle.line.specs.Held.{Held}
 use Rattle.order.specs.Chain.{State}
-use Rattle.refuse.specs.Answer.{acceptedOf}
+use Rattle.answer.specs.Answer.{acceptedOf}
 use Rattle.chain.specs.Chain.{state}
 use Rattle.chain.specs.Demands.{Arrays, Taken}
 use Rattle.chain.proofs.Running.{CanRun, can-run, places-are, ran, not-ran}

@@ -6,7 +6,7 @@ use borrow.Author.Needs.{needs}
 use denote.Ref.{now}
 use lib.ListN.{length, getD}
 use Rattle.stage.proofs.Starts.{starts-at}
-use Rattle.refuse.specs.Answer.{acceptedOf}
+use Rattle.answer.specs.Answer.{acceptedOf}
 use Rattle.refuse.specs.Refusals.{chainAnswer}
 use Rattle.chain.specs.Start.{clearedTo}
 use Rattle.chain.proofs.Starting.{CanStart, can-start, started, not-started}

@@ -2,7 +2,7 @@ use mathlib.Core.Path.{_≡_, sym, ap, _∙_}
 use lib.Ieee.{binary32}
 use borrow.Author.Needs.{needs}
 use Rattle.float.proofs.Cases.{nan-is}
-use Rattle.float.proofs.RootLaw.{nan-pattern, no-nan-pattern}
+use Rattle.float.proofs.Patterns.{nan-pattern, no-nan-pattern}
 use Rattle.float.proofs.bits.from_bits_f32.Statement.{statement}
 use Rattle.float.proofs.bits.from_bits_f32.Tie as tie
 

@@ -2,7 +2,7 @@
 use mathlib.Core.Path.{ap, sym, _∙_}
 use denote.Ref.{now}
 use borrow.Author.Needs.{needs}
-use Rattle.refuse.specs.Answer.{acceptedOf}
+use Rattle.answer.specs.Answer.{acceptedOf}
 use Rattle.refuse.proofs.Parts.{chain-count, refused-part, passed-part}
 use Rattle.refuse.proofs.block.refusal.Statement.{statement}
 use Rattle.refuse.proofs.block.refusal.Tie as tie

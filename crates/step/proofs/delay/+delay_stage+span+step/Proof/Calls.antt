@@ -22,7 +22,7 @@ use Rattle.frame.proofs.Frame.mul.Reads as mul-reads
 use Rattle.line.proofs.frames.frame_at.Reads as frame-at-reads
 use Rattle.line.proofs.frames.put_frame.Reads as put-frame-reads
 use Rattle.line.proofs.position.next_position.Reads as next-position-reads
-use Rattle.line.proofs.reverb.process.Reads as reverb-reads
+use Rattle.reverb.proofs.process.Reads as reverb-reads
 use Rattle.stage.proofs.layout.next_place.Reads as next-place-reads
 use Rattle.stage.proofs.layout.size_between.Reads as size-between-reads
 use Rattle.step.proofs.delay.eq_stage.Reads as eq-stage-reads

@@ -1,0 +1,49 @@
+-- The answers, each with document 01's number and place. Definitions only.
+use mathlib.Core.Bool.{Bool, true, false}
+use Prim.Native.Nat.{ℕ}
+use Rattle.answer.specs.declared.Answer.{Answer}
+use Rattle.answer.specs.declared.Answer.the-variants.{Accepted, Rate, Stages, Shape, Setting, Store, Position, Samples, Frames, Progress, Sample, Entry}
+
+-- document 01's number; 0 for an accepted call
+unfoldable pub numberOf : Answer → ℕ
+numberOf Accepted = 0
+numberOf Rate = 1
+numberOf Stages = 2
+numberOf (Shape at) = 3
+numberOf (Setting at) = 4
+numberOf (Store needed) = 5
+numberOf (Position at) = 6
+numberOf Samples = 7
+numberOf Frames = 8
+numberOf (Progress at) = 9
+numberOf (Sample at) = 10
+numberOf (Entry at) = 11
+
+-- and its place
+unfoldable pub placeOf : Answer → ℕ
+placeOf Accepted = 0
+placeOf Rate = 0
+placeOf Stages = 0
+placeOf (Shape at) = at
+placeOf (Setting at) = at
+placeOf (Store needed) = needed
+placeOf (Position at) = at
+placeOf Samples = 0
+placeOf Frames = 0
+placeOf (Progress at) = at
+placeOf (Sample at) = at
+placeOf (Entry at) = at
+
+unfoldable pub acceptedOf : Answer → Bool
+acceptedOf Accepted = true
+acceptedOf Rate = false
+acceptedOf Stages = false
+acceptedOf (Shape at) = false
+acceptedOf (Setting at) = false
+acceptedOf (Store needed) = false
+acceptedOf (Position at) = false
+acceptedOf Samples = false
+acceptedOf Frames = false
+acceptedOf (Progress at) = false
+acceptedOf (Sample at) = false
+acceptedOf (Entry at) = false

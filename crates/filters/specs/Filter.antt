@@ -1,0 +1,33 @@
+-- kira's `filter.rs`, one frame. Definitions only.
+use lib.Ieee.{Float, binary32, binary64, sub, mul}
+use Rattle.float.specs.Literal.{literal}
+use Rattle.float.specs.Clamp.{unitOf}
+use Rattle.rounding.specs.Narrow.{narrowOf}
+use Rattle.frame.specs.declared.Frame.{Frame}
+use Rattle.frame.specs.Operations.{subOf, mulOf}
+use Rattle.frame.specs.Mix.{mixOf}
+use Rattle.integrators.specs.declared.Integrators.{Integrators}
+use Rattle.integrators.specs.declared.Parts.{Parts}
+use Rattle.integrators.specs.declared.Filtered.{Filtered}
+use Rattle.filters.specs.declared.filter.FilterMode.{FilterMode}
+use Rattle.filters.specs.declared.filter.FilterMode.the-variants.{LowPass, BandPass, HighPass, Notch}
+use Rattle.integrators.specs.Integrators.{weightsOf, stepOf}
+
+-- `let k = 2.0 - (1.9 * resonance)`, the resonance clamped to 0..1
+unfoldable pub dampingOf : Float → Float
+dampingOf resonance = sub binary64 (literal binary64 2 1) (mul binary64 (literal binary64 19 10) (unitOf binary64 resonance))
+
+-- k is an f32 here
+unfoldable pub outputOf : FilterMode → Frame → Parts → Float → Frame
+outputOf LowPass frame p k = p .v2
+outputOf BandPass frame p k = p .v1
+outputOf HighPass frame p k = subOf (subOf frame (mulOf (p .v1) k)) (p .v2)
+outputOf Notch frame p k = subOf frame (mulOf (p .v1) k)
+
+unfoldable pub filterOf : FilterMode → Float → Float → Float → Integrators → Frame → Filtered
+unfolding dampingOf outputOf weightsOf stepOf
+filterOf mode g resonance mix memory frame =
+    let k = dampingOf resonance in
+    let a = weightsOf g k in
+    let s = stepOf memory frame (narrowOf binary32 (a .a1)) (narrowOf binary32 (a .a2)) (narrowOf binary32 (a .a3)) in
+    record { output = mixOf (outputOf mode frame (s .parts) (narrowOf binary32 k)) frame mix; after = s .after }

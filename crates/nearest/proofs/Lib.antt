@@ -1,0 +1,7 @@
+pub mod Powers
+pub mod Magnitude
+pub mod Grid
+pub mod Kept
+pub mod RoundKept
+pub mod RootKept
+pub mod Evidence

@@ -1,0 +1,2 @@
+pub mod Tuning
+pub mod Reverb

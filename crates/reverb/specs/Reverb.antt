@@ -1,0 +1,82 @@
+-- kira's `reverb.rs`, one frame: "mono input (left + right) * 0.015; eight combs a side summed from 0; four all-passes a side in series; width; mix". Definitions only.
+use mathlib.Core.Bool.{_&&_, cond}
+use mathlib.Core.List.{List, [], _∷_}
+use Prim.Native.Nat.{ℕ}
+use lib.Dec.{leb}
+use lib.ListN.{length, getD, set}
+use lib.Ieee.{Float, nan, binary32, add, sub, mul, div}
+use Rattle.float.specs.Literal.{literal}
+use Rattle.frame.specs.declared.Frame.{Frame}
+use Rattle.frame.specs.Mix.{mixOf}
+use Rattle.line.specs.Held.{Held, holds, front, back, joined, Ran, ran}
+use Rattle.line.specs.Comb.{combedOf, combLineOf}
+use Rattle.line.specs.AllPass.{passedOf, passLineOf}
+use Rattle.reverb.specs.Tuning.{combTunings, allPassTunings, tunings, lineOf, floatsOf, reverbFloats}
+
+-- a sample, and what is held beside it
+pub record Heard : Type 0 where
+  pub out : Float
+  pub held : Held
+
+abbrev pub heard : Float → Held → Heard
+heard x h = record { out = x; held = h }
+
+-- one comb and one all-pass, each with nothing but its own line, position and, for the comb, remembered float
+unfoldable pub combOf : Float → Float → Float → Held → Heard
+combOf feedback damping input h =
+    let at = getD (h .positions) 0 0 in
+    let remembered = getD (h .floats) 0 nan in
+    let c = combedOf damping at remembered (h .store) in
+    heard (c .output) (holds (combLineOf feedback damping input at remembered (h .store)) (set (h .positions) 0 (c .at)) (set (h .floats) 0 (c .«filter_store»)))
+
+unfoldable pub passOf : Float → Held → Heard
+passOf input h =
+    let at = getD (h .positions) 0 0 in
+    let p = passedOf input at (h .store) in
+    heard (p .output) (holds (passLineOf input at (h .store)) (set (h .positions) 0 (p .at)) (h .floats))
+
+-- all-passes in series: the first has the front, and the others have what it gives and the rest
+unfoldable pub passesOf : ℕ → ℕ → List ℕ → Float → Held → Heard
+passesOf spread rate [] x h = heard x h
+passesOf spread rate (t ∷ ts) x h =
+    let n = lineOf spread rate t in
+    let p = passOf x (front n 1 0 h) in
+    let r = passesOf spread rate ts (p .out) (back n 1 0 h) in
+    heard (r .out) (joined (p .held) (r .held))
+
+-- combs side by side: each has the input, the front of what is left, and adds to the sum; `next` has the sum and the rest
+unfoldable pub combsOf : ℕ → ℕ → Float → Float → Float → (Float → Held → Heard) → List ℕ → Float → Held → Heard
+combsOf spread rate feedback damping input next [] sum h = next sum h
+combsOf spread rate feedback damping input next (t ∷ ts) sum h =
+    let n = lineOf spread rate t in
+    let c = combOf feedback damping input (front n 1 1 h) in
+    let r = combsOf spread rate feedback damping input next ts (add binary32 sum (c .out)) (back n 1 1 h) in
+    heard (r .out) (joined (c .held) (r .held))
+
+unfoldable pub sideOf : ℕ → ℕ → Float → Float → Float → Held → Heard
+unfolding combsOf passesOf
+sideOf spread rate feedback damping input h = combsOf spread rate feedback damping input (passesOf spread rate allPassTunings) combTunings (literal binary32 0 1) h
+
+-- `wet_1 = stereo_width / 2.0 + 0.5`, `wet_2 = (1.0 - stereo_width) / 2.0`
+unfoldable pub widthOf : Float → Float → Float → Frame
+widthOf left right width =
+    let wet1 = add binary32 (div binary32 width (literal binary32 2 1)) (literal binary32 1 2) in
+    let wet2 = div binary32 (sub binary32 (literal binary32 1 1) width) (literal binary32 2 1) in
+    record { left = add binary32 (mul binary32 left wet1) (mul binary32 right wet2); right = add binary32 (mul binary32 right wet1) (mul binary32 left wet2) }
+
+-- the left side has the front, the right side the rest
+unfoldable pub reverbed : ℕ → Float → Float → Float → Float → Ran → Ran
+unfolding sideOf
+reverbed rate feedback damping width mix r =
+    let input = mul binary32 (add binary32 (r .frame .left) (r .frame .right)) (literal binary32 15 1000) in
+    let n = floatsOf 0 rate tunings in
+    let left = sideOf 0 rate feedback damping input (front n 12 8 (r .held)) in
+    let right = sideOf 23 rate feedback damping input (back n 12 8 (r .held)) in
+    ran (mixOf (widthOf (left .out) (right .out) width) (r .frame) mix) (joined (left .held) (right .held))
+
+-- where there is room for it; otherwise the frame comes back and nothing changes
+unfoldable pub reverbOf : ℕ → Float → Float → Float → Float → Ran → Ran
+unfolding reverbed
+reverbOf rate feedback damping width mix r =
+    cond (leb (reverbFloats rate) (length (r .held .store)) && leb 24 (length (r .held .positions)) && leb 16 (length (r .held .floats)))
+    (reverbed rate feedback damping width mix r) r

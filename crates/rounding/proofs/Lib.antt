@@ -1,0 +1,11 @@
+pub mod Compare
+pub mod Pack
+pub mod Roots
+pub mod Rounding
+pub mod WholeRoot
+pub mod RootDigit
+pub mod Aligned
+pub mod RootLaw
+pub mod Narrowing
+pub mod OneOutcome
+pub mod Examples

@@ -1,0 +1,69 @@
+// Rust's `as f32` from an f64: the f32 nearest to it, a tie going to the even one. The digits that
+// the f32 has no room for are divided off, and the exponent's field is set back by the difference
+// of the two formats' biases, 896.
+ghost use mathlib.Core.Path.{_≡_};
+ghost use mathlib.Core.Bool.{Bool, cond};
+ghost use Prim.Native.Nat.{_+_, _^_, _≤_, _<_, min};
+ghost use lib.Ieee.{binary32, binary64, ofBits, ofFields};
+ghost use lib.Ieee.Nearest.{closest};
+ghost use Rattle.rounding.specs.Narrow.{narrowOf};
+
+pub(crate) fn lesser(a: u64, b: u64) -> u64
+    ensures { λ r. ⌜ r ≡ min a b ⌝ }
+{
+    if a < b { a } else { b }
+}
+
+// q / h to the nearest whole number, a tie to the even one.
+fn nearest_quotient(q: u64, h: u64) -> u64
+    requires { ⌜ q < 2 ^ 53 ⌝ ∗ ⌜ 0 < h ⌝ }
+    ensures { λ r. ⌜ r ≡ closest q h ⌝ }
+{
+    let whole = q / h;
+    let rest = q % h;
+    let gap = h - rest;
+    if rest < gap {
+        return whole;
+    }
+    if gap < rest {
+        return whole + 1;
+    }
+    whole + whole % 2
+}
+
+// The bits, without the sign, of the f32 nearest to the f64 of these fields.
+fn narrowed(field: u64, digits: u64) -> u64
+    requires { ⌜ field < 2047 ⌝ ∗ ⌜ digits < 0x10_0000_0000_0000 ⌝ }
+    ensures { λ r. ⌜ ((s : Bool) → ofBits binary32 (cond s (2 ^ 31) 0 + r) ≡ narrowOf binary32 (ofFields binary64 s field digits)) × (r ≤ 0x7f80_0000) ⌝ }
+{
+    if field < 873 {
+        return 0;
+    }
+    let q = 0x10_0000_0000_0000 + digits;
+    if field < 897 {
+        return nearest_quotient(q, 1 << (926 - field));
+    }
+    lesser(
+        (field - 897) * 0x80_0000 + nearest_quotient(q, 0x2000_0000),
+        0x7f80_0000,
+    )
+}
+
+pub fn as_f32(x: f64) -> f32
+    ensures { λ r. ⌜ r ≡ narrowOf binary32 x ⌝ }
+{
+    if x != x {
+        return 0.0 / 0.0;
+    }
+    let b = f64::to_bits(x);
+    let rest = b % 0x8000_0000_0000_0000;
+    let size = if rest < 0x7ff0_0000_0000_0000 {
+        narrowed(rest / 0x10_0000_0000_0000, rest % 0x10_0000_0000_0000)
+    } else {
+        0x7f80_0000
+    };
+    if b < 0x8000_0000_0000_0000 {
+        return f32::from_bits(size as u32);
+    }
+    f32::from_bits((0x8000_0000 + size) as u32)
+}
