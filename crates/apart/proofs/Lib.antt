@@ -1,5 +1,4 @@
 pub mod Keeps
-pub mod Local
 pub mod Moved
 pub mod OnLines
 pub mod Examples

@@ -2,25 +2,29 @@
 use mathlib.Core.Path.{_≡_, sym, ap, _∙_, subst}
 use mathlib.Core.Bool.{Bool, true, cond}
 use mathlib.Core.List.{List, [], _∷_}
-use Prim.Native.Nat.{ℕ}
+use Prim.Native.Nat.{ℕ, suc, _*_, _≤_}
+use native.Mathlib.Omega.{arith}
 use lib.Ieee.{Float}
 use lib.ListN.{length}
 use Rattle.line.specs.Held.{Held}
-use Rattle.order.specs.Chain.{State}
+use Rattle.order.specs.Chain.{State, Chain, Out, at, out}
 use Rattle.order.specs.Render.{frames, from}
 use Rattle.order.specs.Finish.{finishing}
 use Rattle.order.specs.Claims.{Whole, Finishes}
-use Rattle.order.proofs.OneStep.{one-step}
+use Rattle.order.proofs.OneStep.{made, one-step}
 use Rattle.order.proofs.Agree.{orders-agree}
 use Rattle.order.proofs.FrameByFrame.{frames-whole, frame-by-frame, order-renders}
 use Rattle.order.proofs.Finishing.{finishing-finishes, leaves-finishing}
 use Rattle.stage.specs.declared.kind.Stage.{Stage}
+use Rattle.stage.specs.Layout.{startOf}
 use Rattle.answer.specs.Answer.{acceptedOf}
-use Rattle.refuse.specs.Tops.{topsOf}
+use Rattle.refuse.specs.Tops.{topAt, topsOf}
+use Rattle.refuse.proofs.TopStages.{top-le, top-next}
 use Rattle.table.proofs.Clears.{clear-of-accepted, accepted-of-clear}
-use Rattle.chain.specs.Chain.{Room, chainOf, framesOf, stepped, ordered}
+use Rattle.chain.specs.Chain.{stretch, Room, chainOf, framesOf, Ready, May, stepped, ordered}
 use Rattle.chain.specs.Run.{leftOf, renderedOf}
-use Rattle.chain.specs.Demands.{Taken, AllAt, Finishing, StepByStep, OneStep, StepsKeepApart, AnyOrder, WholeFrames, RenderIsRun}
+use Rattle.chain.specs.Demands.{Arrays, Outside, Taken, AllAt, Finishing, StepByStep, OneStep, StepsKeepApart, Alike, StepsStandAlone, AnyOrder, WholeFrames, RenderIsRun}
+use Rattle.chain.proofs.Stretches.{stretch-same, outside-store, outside-positions, outside-floats}
 use Rattle.chain.proofs.ChainLocal.{Sized, chain-local}
 use Rattle.chain.proofs.Accepts.{ClearOn, ready, orderly, clear-with, clear-stays}
 
@@ -50,12 +54,61 @@ step-by-step rate l c s k order a t =
     }
 
 -- ---- demand 3: a step
+module _ (rate : ℕ) (l : List Stage) (c : ℕ) (s : State Float Held) (k : ℕ) (a : Arrays s) (t : Taken rate l c s (k ∷ [])) where
+  abbrev C : Chain Float Held
+  C = chainOf rate l c
+
+  abbrev F : ℕ
+  F = framesOf (s .samples)
+
+  is-ready : Ready rate l c s
+  is-ready = ready rate l c s (k ∷ []) a (clear rate l c s (k ∷ []) t)
+
+  may : May rate l c s k
+  may = orderly rate l c s (k ∷ []) (clear rate l c s (k ∷ []) t) .0
+
+  i≤e : topAt l c k ≤ topAt l c (suc k)
+  i≤e = top-next l c k
+
+  e≤c : topAt l c (suc k) ≤ c
+  e≤c = top-le l c (suc k)
+
+  fills : Sized rate l c k (out C k s .held)
+  fills = made C (Room rate l c) (Sized rate l c) (chain-local rate l c) F s k is-ready may .held
+
+  keep-apart : OneStep rate l c k s (stepped rate l c k s)
+  keep-apart =
+      let w = one-step C (Room rate l c) (Sized rate l c) (chain-local rate l c) F s k is-ready may in
+      let r = is-ready .held in
+      record {
+        frame = w .frame;
+        samples = record { lengths = w .samples; before = w .before 0 (at s k * 2) (omega arith); after = w .after };
+        held = ap (λ (h : Held). stretch rate l (topAt l c k) (topAt l c (suc k)) h) (w .held) ∙ stretch-same rate l c (s .held) r (topAt l c k) (topAt l c (suc k)) i≤e e≤c (out C k s .held) fills;
+        store = subst (λ (h : Held). Outside (startOf rate l (topAt l c k)) (startOf rate l (topAt l c (suc k))) (s .held .store) (h .store)) (sym (w .held)) (outside-store rate l c (s .held) r (topAt l c k) (topAt l c (suc k)) i≤e e≤c (out C k s .held) fills);
+        positions = subst (λ (h : Held). Outside (24 * topAt l c k) (24 * topAt l c (suc k)) (s .held .positions) (h .positions)) (sym (w .held)) (outside-positions rate l c (s .held) r (topAt l c k) (topAt l c (suc k)) i≤e e≤c (out C k s .held) fills);
+        floats = subst (λ (h : Held). Outside (20 * topAt l c k) (20 * topAt l c (suc k)) (s .held .floats) (h .floats)) (sym (w .held)) (outside-floats rate l c (s .held) r (topAt l c k) (topAt l c (suc k)) i≤e e≤c (out C k s .held) fills);
+        moved = w .moved;
+        others = w .others;
+        falls = w .inv .falls;
+      }
+
+  keeps-apart : OneStep rate l c k s (leftOf rate l c s (k ∷ []))
+  keeps-apart = subst (OneStep rate l c k s) (sym (left-is rate l c s (k ∷ []) t)) keep-apart
+
 pub steps-keep-apart : StepsKeepApart
-steps-keep-apart rate l c s k a t =
-    let z = clear rate l c s (k ∷ []) t in
-    let w = one-step (chainOf rate l c) (Room rate l c) (Sized rate l c) (chain-local rate l c) (framesOf (s .samples)) s k (ready rate l c s (k ∷ []) a z) (orderly rate l c s (k ∷ []) z .0) in
-    subst (OneStep rate l c k s) (sym (left-is rate l c s (k ∷ []) t))
-    (record { before = w .before; after = w .after; held = w .held; moved = w .moved; others = w .others; falls = w .inv .falls })
+steps-keep-apart = keeps-apart
+
+-- what stage k makes depends on its next frame and on what it holds
+same-out : (rate : ℕ) (l : List Stage) (c : ℕ) (s t : State Float Held) (k : ℕ) → Alike rate l c k s t → out (chainOf rate l c) k s ≡ out (chainOf rate l c) k t
+unfolding out
+same-out rate l c s t k q = λ i. chainOf rate l c .make k (q .frame i) (q .held i)
+
+pub steps-stand-alone : StepsStandAlone
+steps-stand-alone rate l c s t k a b u v q =
+    let x = keeps-apart rate l c s k a u in
+    let y = keeps-apart rate l c t k b v in
+    let e = same-out rate l c s t k q in
+    record { frame = x .frame ∙ ap (λ (o : Out Float Held). o .frame) e ∙ sym (y .frame); held = x .held ∙ ap (λ (o : Out Float Held). o .held) e ∙ sym (y .held) }
 
 -- any two orders
 pub any-order : AnyOrder

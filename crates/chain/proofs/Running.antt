@@ -17,7 +17,7 @@ use Rattle.chain.specs.Chain.{framesOf, Ready, Orderly, ordered}
 use Rattle.chain.specs.Run.{answerOn, leftOf, renderedOf}
 use Rattle.chain.specs.Demands.{Arrays, Taken}
 use Rattle.chain.proofs.Accepts.{ready, orderly}
-use Rattle.chain.proofs.DemandsMet.{clear}
+use Rattle.chain.proofs.DemandsMet.{clear, left-is}
 
 pub record CanRun (rate : ℕ) (l : List Stage) (c : ℕ) (s : State Float Held) (order : List ℕ) : Type 0 where
   pub few : c ≤ 16
@@ -37,7 +37,7 @@ module _ (rate : ℕ) (l : List Stage) (c : ℕ) (s : State Float Held) where
   number-is r e h = ap (λ (t : Tops). t .n) h ∙ ap (λ (n : ℕ). topsOf l n) e
 
   pub ran : (order : List ℕ) → Taken rate l c s order → ordered rate l c s order ≡ leftOf rate l c s order
-  ran order t = sym (ap (λ (b : Bool). cond b (ordered rate l c s order) s) t)
+  ran order t = sym (left-is rate l c s order t)
 
   pub not-ran : (order : List ℕ) → acceptedOf (answerOn rate l c s order) ≡ false → s ≡ leftOf rate l c s order
   not-ran order t = sym (ap (λ (b : Bool). cond b (ordered rate l c s order) s) t)

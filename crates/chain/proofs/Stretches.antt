@@ -7,17 +7,21 @@ use lib.ListN.{length}
 use Rattle.line.specs.Held.{Held, holds}
 use Rattle.line.proofs.Keeps.{Same}
 use Rattle.order.specs.Stretch.{part, splice}
-use Rattle.order.proofs.Stretches.{length-part, length-splice, part-before, part-after, splice-comm}
+use Rattle.order.proofs.Stretches.{length-part, length-splice, part-before, part-after, part-same, drop-after, splice-comm}
 use Rattle.stage.specs.declared.kind.Stage.{Stage}
 use Rattle.stage.specs.Layout.{startOf}
 use Rattle.stage.proofs.Starts.{start-le}
 use Rattle.chain.specs.Chain.{stretch, replaced, Room}
+use Rattle.chain.specs.Demands.{Outside}
 
 -- just what the places from i up to e hold
 pub record Fills (rate : ℕ) (l : List Stage) (i e : ℕ) (a : Held) : Type 0 where
   pub store : length (a .store) ≡ startOf rate l e - startOf rate l i
   pub positions : length (a .positions) ≡ 24 * e - 24 * i
   pub floats : length (a .floats) ≡ 20 * e - 20 * i
+
+pub outside : {A : Type 0} (a e : ℕ) (ys xs : List A) → a ≤ e → length ys ≡ e - a → e ≤ length xs → Outside a e xs (splice a ys xs)
+outside a e ys xs h k m = record { lengths = length-splice a ys xs (omega arith); before = part-before 0 a a ys xs (omega arith) (omega arith); after = drop-after a ys e xs (omega arith) (omega arith) }
 
 module _ (rate : ℕ) (l : List Stage) (c : ℕ) (h : Held) (room : Room rate l c h) where
   abbrev start : ℕ → ℕ
@@ -55,6 +59,27 @@ module _ (rate : ℕ) (l : List Stage) (c : ℕ) (h : Held) (room : Room rate l 
         positions = length-splice (24 * i) (a .positions) (h .positions) in-positions;
         floats = length-splice (20 * i) (a .floats) (h .floats) in-floats;
       }
+
+      -- what was put in is what then stands there, and around it nothing has changed
+      pub stretch-same : stretch rate l i e (replaced rate l i a h) ≡ a
+      unfolding stretch replaced
+      stretch-same =
+          λ t. holds
+          (part-same (start i) (start e - start i) (a .store) (h .store) (f .store) (omega (arith, in-store)) t)
+          (part-same (24 * i) (24 * e - 24 * i) (a .positions) (h .positions) (f .positions) (omega (arith, in-positions)) t)
+          (part-same (20 * i) (20 * e - 20 * i) (a .floats) (h .floats) (f .floats) (omega (arith, in-floats)) t)
+
+      pub outside-store : Outside (start i) (start e) (h .store) (replaced rate l i a h .store)
+      unfolding replaced
+      outside-store = outside (start i) (start e) (a .store) (h .store) starts-ie (f .store) (omega (arith, starts-ec, room .store))
+
+      pub outside-positions : Outside (24 * i) (24 * e) (h .positions) (replaced rate l i a h .positions)
+      unfolding replaced
+      outside-positions = outside (24 * i) (24 * e) (a .positions) (h .positions) (omega arith) (f .positions) (omega (arith, room .positions))
+
+      pub outside-floats : Outside (20 * i) (20 * e) (h .floats) (replaced rate l i a h .floats)
+      unfolding replaced
+      outside-floats = outside (20 * i) (20 * e) (a .floats) (h .floats) (omega arith) (f .floats) (omega (arith, room .floats))
 
       pub replaced-room : Room rate l c (replaced rate l i a h)
       replaced-room = record { store = omega (arith, replaced-same .store, room .store); positions = omega (arith, replaced-same .positions, room .positions); floats = omega (arith, replaced-same .floats, room .floats) }

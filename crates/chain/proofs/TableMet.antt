@@ -2,12 +2,15 @@
 use mathlib.Core.Path.{sym}
 use lib.ListN.{length}
 use Rattle.table.proofs.TableHolds.{start-by-the-table, by-the-table}
-use Rattle.chain.specs.Table.{AnswersTabled, StartsTabled}
+use Rattle.chain.specs.Table.{AnswersTabled, RenderUnchanged, StartsTabled}
 use Rattle.chain.proofs.Starting.{started, not-started}
-use Rattle.chain.proofs.Running.{not-ran}
+use Rattle.chain.proofs.Running.{ran, not-ran, not-rendered}
 
 pub answers-tabled : AnswersTabled
-answers-tabled rate l c s order = record { answer = by-the-table rate l c (length (s .held .store)) (s .samples) (s .held .positions) (s .progress) order; unchanged = λ h. sym (not-ran rate l c s order h) }
+answers-tabled rate l c s order = record { answer = by-the-table rate l c (length (s .held .store)) (s .samples) (s .held .positions) (s .progress) order; unchanged = λ h. sym (not-ran rate l c s order h); rendered = λ h. sym (ran rate l c s order h) }
+
+pub render-unchanged : RenderUnchanged
+render-unchanged rate l c s h = sym (not-rendered rate l c s h)
 
 pub starts-tabled : StartsTabled
 starts-tabled rate l c store = record { answer = start-by-the-table rate l c (length store); unchanged = λ h. sym (not-started rate l c store h); cleared = λ h. sym (started rate l c store h) }

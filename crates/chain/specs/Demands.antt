@@ -5,7 +5,7 @@ use mathlib.Core.Bool.{true}
 use mathlib.Core.List.{List, [], _∷_, _++_}
 use Prim.Native.Nat.{ℕ, suc, _+_, _*_, _≤_, _<_}
 use lib.Ieee.{Float}
-use lib.ListN.{length, drop}
+use lib.ListN.{length, take, drop}
 use Rattle.line.specs.Held.{Held}
 use Rattle.order.specs.Stretch.{part}
 use Rattle.order.specs.Order.{count}
@@ -14,9 +14,10 @@ use Rattle.order.specs.Render.{frames, from, render}
 use Rattle.order.specs.Finish.{finishing}
 use Rattle.order.specs.Claims.{begin, Cut}
 use Rattle.stage.specs.declared.kind.Stage.{Stage}
+use Rattle.stage.specs.Layout.{startOf, placePositions, placeFloats}
 use Rattle.answer.specs.Answer.{acceptedOf}
 use Rattle.refuse.specs.Tops.{topAt, topsOf}
-use Rattle.chain.specs.Chain.{chainOf, framesOf, replaced, stepped, Orderly, ordered}
+use Rattle.chain.specs.Chain.{stretch, chainOf, framesOf, stepped, Orderly, ordered}
 use Rattle.chain.specs.Run.{answerOn, leftOf, renderedOf}
 
 -- the arrays have the lengths that their types say
@@ -24,6 +25,12 @@ pub record Arrays (s : State Float Held) : Type 0 where
   pub positions : length (s .held .positions) ≡ 384
   pub floats : length (s .held .floats) ≡ 320
   pub progress : length (s .progress) ≡ 16
+
+-- zs has the length of xs, and differs from it at most from place a up to e
+pub record Outside {A : Type 0} (a e : ℕ) (xs zs : List A) : Type 0 where
+  pub lengths : length zs ≡ length xs
+  pub before : take a zs ≡ take a xs
+  pub after : drop e zs ≡ drop e xs
 
 module _ (rate : ℕ) (l : List Stage) (c : ℕ) where
   -- the order is accepted
@@ -52,17 +59,44 @@ module _ (rate : ℕ) (l : List Stage) (c : ℕ) where
 
   -- ---- Demand 3: "a step runs one stage on its next frame, never ahead of the stage before it"
 
+  -- the places of top stage k and of the stages that it owns: from its own up to the next top stage's
+  abbrev pub placeOf : ℕ → ℕ
+  placeOf k = topAt l c k
+
+  abbrev pub endOf : ℕ → ℕ
+  endOf k = topAt l c (suc k)
+
+  -- what they hold: their lines and memories
+  abbrev pub heldBy : ℕ → State Float Held → Held
+  heldBy k s = stretch rate l (placeOf k) (endOf k) (s .held)
+
+  abbrev pub nextFrame : ℕ → State Float Held → List Float
+  nextFrame k s = part (at s k * 2) 2 (s .samples)
+
   pub record OneStep (k : ℕ) (s z : State Float Held) : Type 0 where
-    -- of the samples only the frame at k's progress changes
-    pub before : (a n : ℕ) → a + n ≤ at s k * 2 → part a n (z .samples) ≡ part a n (s .samples)
-    pub after : drop (suc (at s k) * 2) (z .samples) ≡ drop (suc (at s k) * 2) (s .samples)
-    -- of the lines and memories only the stretch of stage k and of the stages that it owns
-    pub held : z .held ≡ replaced rate l (topAt l c k) (out (chainOf rate l c) k s .held) (s .held)
+    -- the frame at k's progress is what the stage makes of it, and no other sample changes
+    pub frame : part (at s k * 2) 2 (z .samples) ≡ out (chainOf rate l c) k s .frame
+    pub samples : Outside (at s k * 2) (suc (at s k) * 2) (s .samples) (z .samples)
+    -- so are the lines and memories of stage k and of the stages that it owns; all others, and "floats past the last line", do not change
+    pub held : heldBy k z ≡ out (chainOf rate l c) k s .held
+    pub store : Outside (startOf rate l (placeOf k)) (startOf rate l (endOf k)) (s .held .store) (z .held .store)
+    pub positions : Outside (placePositions * placeOf k) (placePositions * endOf k) (s .held .positions) (z .held .positions)
+    pub floats : Outside (placeFloats * placeOf k) (placeFloats * endOf k) (s .held .floats) (z .held .floats)
     -- its progress is one more, and every other as it was
     pub moved : at z k ≡ suc (at s k)
     pub others : (j : ℕ) → j ≢ k → at z j ≡ at s j
     -- and no stage is ahead of one before it
     pub falls : (a b : ℕ) → a ≤ b → b < topsOf l c → at z b ≤ at z a
+
+  -- "a step's answer doesn't depend on them or on lines of stages it doesn't run": blocks that agree on stage k's next frame and on what it and the stages that it owns hold
+  pub record Alike (k : ℕ) (s t : State Float Held) : Type 0 where
+    pub frame : nextFrame k s ≡ nextFrame k t
+    pub held : heldBy k s ≡ heldBy k t
+
+  -- get the same frame, and the same is left of what they hold
+  pub record SameAnswer (k : ℕ) (s t : State Float Held) : Type 0 where
+    pub frame : part (at s k * 2) 2 (leftOf rate l c s (k ∷ []) .samples) ≡ part (at t k * 2) 2 (leftOf rate l c t (k ∷ []) .samples)
+    pub held : heldBy k (leftOf rate l c s (k ∷ [])) ≡ heldBy k (leftOf rate l c t (k ∷ []))
 
 -- an accepted order of one entry or more
 abbrev pub StepByStep : Type 0
@@ -70,6 +104,9 @@ StepByStep = (rate : ℕ) (l : List Stage) (c : ℕ) (s : State Float Held) (k :
 
 abbrev pub StepsKeepApart : Type 0
 StepsKeepApart = (rate : ℕ) (l : List Stage) (c : ℕ) (s : State Float Held) (k : ℕ) → Arrays s → Taken rate l c s (k ∷ []) → OneStep rate l c k s (leftOf rate l c s (k ∷ []))
+
+abbrev pub StepsStandAlone : Type 0
+StepsStandAlone = (rate : ℕ) (l : List Stage) (c : ℕ) (s t : State Float Held) (k : ℕ) → Arrays s → Arrays t → Taken rate l c s (k ∷ []) → Taken rate l c t (k ∷ []) → Alike rate l c k s t → SameAnswer rate l c k s t
 
 -- "from equal rate, settings, samples, lines, memories and progress, any two accepted orders that name each stage equally often leave all of these equal"
 abbrev pub AnyOrder : Type 0

@@ -14,8 +14,8 @@ use Rattle.nearest.proofs.Evidence as Evidence
 use Rattle.decibels.specs.Amplitude.{amplitudeOf, eqAmplitudeOf}
 use Rattle.decibels.proofs.Powers.{NearestPower}
 use Rattle.decibels.proofs.Tables as Tables
-use Rattle.chain.specs.Table.{AnswersTabled, StartsTabled}
-use Rattle.chain.specs.Demands.{StepByStep, StepsKeepApart, AnyOrder, WholeFrames, CutAnywhere, RenderIsRun}
+use Rattle.chain.specs.Table.{AnswersTabled, RenderUnchanged, StartsTabled}
+use Rattle.chain.specs.Demands.{StepByStep, StepsKeepApart, StepsStandAlone, AnyOrder, WholeFrames, CutAnywhere, RenderIsRun}
 use Rattle.chain.proofs.TableMet as TableMet
 use Rattle.chain.proofs.DemandsMet as DemandsMet
 use Rattle.chain.proofs.CutMet as CutMet
@@ -23,6 +23,9 @@ use Rattle.chain.proofs.CutMet as CutMet
 -- 1. "Any rate, settings, samples, memories, line store, progress and step order may be passed in. What meets none of document 01's eleven refusals is rendered. A refusal comes exactly under its condition, gives its number and place, and changes no sample, line, memory or progress."
 pub demand-1 : AnswersTabled
 demand-1 = TableMet.answers-tabled
+
+pub demand-1-render : RenderUnchanged
+demand-1-render = TableMet.render-unchanged
 
 pub demand-1-start : StartsTabled
 demand-1-start = TableMet.starts-tabled
@@ -51,6 +54,10 @@ demand-2-eq-amplitude = Tables.eq-amplitude-rule
 -- 3. "A step runs one stage on its next frame, never ahead of the stage before it."
 pub demand-3-step : StepsKeepApart
 demand-3-step = DemandsMet.steps-keep-apart
+
+-- document 01: "floats past the last line never change" (above), "and a step's answer doesn't depend on them or on lines of stages it doesn't run"
+pub demand-3-alone : StepsStandAlone
+demand-3-alone = DemandsMet.steps-stand-alone
 
 -- "From equal rate, settings, samples, lines, memories and progress, any two accepted orders that name each stage equally often leave all of these equal."
 pub demand-3-any-order : AnyOrder

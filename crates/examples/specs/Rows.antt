@@ -1,0 +1,135 @@
+-- Document 01's examples, P1 to P13: of each, what the definitions give that the public contracts cite, and what the document says. Numbers are whole, floats are written as their bits. Definitions only.
+use mathlib.Core.Path.{_≡_}
+use mathlib.Core.Bool.{true, false}
+use mathlib.Core.List.{List, [], _∷_, map}
+use Prim.Native.Nat.{ℕ, _+_, _^_}
+use lib.IntN.{pos, negsuc}
+use lib.ListN.{length, replicate}
+use lib.Ieee.{Float, fin, binary32, binary64, neg, toBits}
+use Rattle.float.specs.Literal.{literal}
+use Rattle.rounding.specs.Root.{sqrtOf}
+use Rattle.rounding.specs.Narrow.{narrowOf}
+use Rattle.decibels.specs.Amplitude.{amplitudeOf}
+use Rattle.frame.specs.declared.Frame.{Frame}
+use Rattle.frame.specs.Panning.{pannedOf}
+use Rattle.effect.specs.declared.distortion.DistortionKind.{DistortionKind}
+use Rattle.effect.specs.declared.distortion.DistortionKind.the-variants.{HardClip, SoftClip}
+use Rattle.effect.specs.Distortion.{distortionOf}
+use Rattle.line.specs.AllPass.{passedOf, passLineOf}
+use Rattle.line.specs.Comb.{combedOf, combLineOf}
+use Rattle.reverb.specs.Tuning.{lengthOf}
+use Rattle.stage.specs.declared.kind.Stage.{Stage}
+use Rattle.stage.specs.declared.kind.Stage.the-variants.{VolumeControl, Delay}
+use Rattle.answer.specs.Answer.{numberOf, placeOf}
+use Rattle.refuse.specs.Refusals.{answerOf}
+use Rattle.chain.specs.Chain.{state}
+use Rattle.chain.specs.Run.{renderedOf}
+
+pub record Row : Type 0 where
+  pub given : List ℕ
+  pub said : List ℕ
+
+abbrev pub row : List ℕ → List ℕ → Row
+row given said = record { given = given; said = said }
+
+-- ---- numbers as the document writes them
+
+-- a whole number, and a fraction
+abbrev pub number : ℕ → Float
+number n = literal binary32 n 1
+
+abbrev pub ratio : ℕ → ℕ → Float
+ratio a b = literal binary32 a b
+
+abbrev pub bits : Float → ℕ
+bits x = toBits binary32 x
+
+abbrev pub both : ℕ → Frame
+both n = record { left = number n; right = number n }
+
+abbrev pub frameBits : Frame → List ℕ
+frameBits x = bits (x .left) ∷ bits (x .right) ∷ []
+
+-- 1 and one half, as bits
+abbrev pub one : ℕ
+one = 0x3f80_0000
+
+abbrev pub half : ℕ
+half = 0x3f00_0000
+
+-- ---- P10: an all-pass by its position and its line: what it gives, and what it is then
+
+abbrev pub passed : Float → ℕ × List Float → ℕ
+passed x s = bits (passedOf x (s .0) (s .1) .output)
+
+abbrev pub freshPass : ℕ × List Float
+freshPass = (0, number 0 ∷ [])
+
+abbrev pub passThen : Float → ℕ × List Float → ℕ × List Float
+passThen x s = (passedOf x (s .0) (s .1) .at, passLineOf x (s .0) (s .1))
+
+-- ---- P11: a comb with feedback 0.5 and damping 0 by its position, what it remembers, and its line
+
+abbrev pub combed : ℕ × Float × List Float → ℕ
+combed s = bits (combedOf (number 0) (s .0) (s .1) (s .2) .output)
+
+abbrev pub freshComb : ℕ × Float × List Float
+freshComb = (0, number 0, number 0 ∷ [])
+
+abbrev pub combThen : Float → ℕ × Float × List Float → ℕ × Float × List Float
+combThen x s = (combedOf (number 0) (s .0) (s .1) (s .2) .at, combedOf (number 0) (s .0) (s .1) (s .2) .«filter_store», combLineOf (ratio 1 2) (number 0) x (s .0) (s .1) (s .2))
+
+-- ---- P12: a block rendered from memories and a line at zero
+
+abbrev pub rendered : List Stage → ℕ → List Float → List ℕ
+rendered l floats samples = map bits (renderedOf 44100 l (length l) (state samples (replicate floats (number 0)) (replicate 384 0) (replicate 320 (number 0)) (replicate 16 0)) .samples)
+
+-- ---- P13: number and place of the answer to an order over two stages and one frame
+
+abbrev pub told : List ℕ → List ℕ
+told order =
+    let answer = answerOf 44100 (VolumeControl (pos 0) ∷ VolumeControl (pos 0) ∷ []) 2 0 (number 0 ∷ number 0 ∷ []) (replicate 384 0) (replicate 16 0) order in
+    numberOf answer ∷ placeOf answer ∷ []
+
+-- ---- the list
+
+abbrev pub rows : List Row
+rows =
+    -- P1 "sqrt(0.25) = 0.5"
+    row (bits (sqrtOf binary32 (ratio 1 4)) ∷ []) (half ∷ [])
+    -- P2 "sqrt(-0) = -0"
+    ∷ row (bits (sqrtOf binary32 (neg (number 0))) ∷ []) (0x8000_0000 ∷ [])
+    -- P3 "sqrt(0.5) has bits 3F3504F3"
+    ∷ row (bits (sqrtOf binary32 (ratio 1 2)) ∷ []) (0x3f35_04f3 ∷ [])
+    -- P4 "f64 1 + 2^-24 narrows to 1; 1 + 2^-24 + 2^-52 narrows to 1 + 2^-23"
+    ∷ row (bits (narrowOf binary32 (literal binary64 (2 ^ 24 + 1) (2 ^ 24))) ∷ bits (narrowOf binary32 (literal binary64 (2 ^ 52 + 2 ^ 28 + 1) (2 ^ 52))) ∷ []) (one ∷ 0x3f80_0001 ∷ [])
+    -- P5 "0 dB gives 1, 20 dB gives 10, -60 dB gives 0"
+    ∷ row (bits (amplitudeOf (pos 0)) ∷ bits (amplitudeOf (pos 20)) ∷ bits (amplitudeOf (negsuc 59)) ∷ []) (one ∷ bits (number 10) ∷ 0 ∷ [])
+    -- P6 "at 48,000 line 441 has 480 floats, 1617 has 1760, 1116 has 1214"
+    ∷ row (lengthOf 441 48000 ∷ lengthOf 1617 48000 ∷ lengthOf 1116 48000 ∷ []) (480 ∷ 1760 ∷ 1214 ∷ [])
+    -- P7 "hard clip of 3 at drive 0, mix 1: 1. Soft clip of 1: 0.5"
+    ∷ row (frameBits (distortionOf HardClip (pos 0) (number 1) (both 3))) (one ∷ one ∷ [])
+    ∷ row (frameBits (distortionOf SoftClip (pos 0) (number 1) (both 1))) (half ∷ half ∷ [])
+    -- P8 "panning -1 on (1, 1): left bits 3FB504F3, right 0"
+    ∷ row (frameBits (pannedOf (both 1) (neg (number 1)))) (0x3fb5_04f3 ∷ 0 ∷ [])
+    -- P9 "panning 2^-30 on (1, 1): both 1 - 2^-24"
+    ∷ row (frameBits (pannedOf (both 1) (ratio 1 (2 ^ 30)))) (0x3f7f_ffff ∷ 0x3f7f_ffff ∷ [])
+    -- P10 "all-pass of length 1, inputs 1, 0, 0: -1, 1, 0.5"
+    ∷ row (passed (number 1) freshPass ∷ passed (number 0) (passThen (number 1) freshPass) ∷ passed (number 0) (passThen (number 0) (passThen (number 1) freshPass)) ∷ []) (0xbf80_0000 ∷ one ∷ half ∷ [])
+    -- P11 "comb of length 1, feedback 0.5, damping 0, inputs 1, 0, 0: 0, 1, 0.5"
+    ∷ row (combed freshComb ∷ combed (combThen (number 1) freshComb) ∷ combed (combThen (number 0) (combThen (number 1) freshComb)) ∷ []) (0 ∷ one ∷ half ∷ [])
+    -- P12 "delay of 1 frame, feedback 0 dB, mix 1, frames 1, 0, 0: 0, 1, 1"
+    ∷ row (rendered (Delay 1 (pos 0) (number 1) 0 ∷ []) 2 (number 1 ∷ number 1 ∷ number 0 ∷ number 0 ∷ number 0 ∷ number 0 ∷ [])) (0 ∷ 0 ∷ one ∷ one ∷ one ∷ one ∷ [])
+    -- P13 "two stages, one frame: order 1,0 gives refusal 11 at 0; order 0,1,0 at 2; order 0,1 is taken"
+    ∷ row (told (1 ∷ 0 ∷ [])) (11 ∷ 0 ∷ [])
+    ∷ row (told (0 ∷ 1 ∷ 0 ∷ [])) (11 ∷ 2 ∷ [])
+    ∷ row (told (0 ∷ 1 ∷ [])) (0 ∷ 0 ∷ [])
+    ∷ []
+
+-- the one claim, over all rows: what is given is what is said
+abbrev pub Hold : List Row → Type 0
+Hold [] = Unit {0}
+Hold (r ∷ rs) = (r .given ≡ r .said) × Hold rs
+
+abbrev pub RowsHold : Type 0
+RowsHold = Hold rows
