@@ -1,14 +1,13 @@
 -- Laws of the check of an order: what "may be run" says, and the loop that reads an order entry by entry. Assumes nothing.
-use mathlib.Core.Path.{_≡_, refl, ap, sym, _∙_}
+use mathlib.Core.Path.{_≡_, refl}
 use mathlib.Core.Bool.{Bool, true, false, _&&_, _||_, false≢true}
-use mathlib.Core.List.{List, _∷_}
+use mathlib.Core.List.{List, [], _∷_}
 use Prim.Native.Nat.{ℕ, suc, _+_, _-_, _≤_, _<_}
 use native.Mathlib.Omega.{arith}
-use native.Mathlib.Numerals.{add-one}
 use native.Mathlib.Decide.{ℕ-discrete}
 use lib.Dec.{ltb, eqb}
-use lib.ListN.{length, getD, set, take, drop, drop-of-length-le}
-use lib.Seq.{drop-cons, getD-take, getD-drop}
+use lib.ListN.{length, getD, set, take, drop}
+use lib.Seq.{take-all}
 use borrow.Author.Tests.{ltb-true, lt-ltb, eqb-true, eq-eqb, ne-eqb}
 use Rattle.order.specs.Chain.{OkFrom}
 use Rattle.refuse.specs.Refusals.{mayRun, stuckOf}
@@ -33,29 +32,24 @@ module _ (tops frames : ℕ) (progress : List ℕ) where
         go (yes h) = rw (lt-ltb k tops (o .inside), lt-ltb (getD progress k 0) frames (o .room), eq-eqb k 0 h)
         go (no h) = rw (lt-ltb k tops (o .inside), lt-ltb (getD progress k 0) frames (o .room), ne-eqb k 0 h, lt-ltb (getD progress k 0) (getD progress (k - 1) 0) (o .behind (omega arith)))
 
-  -- ---- a loop over the entries: `at` of them are read, and this is the progress then
-  module _ (order : List ℕ) (at : ℕ) (more : at < length order) where
-    unread : drop at order ≡ getD order at 0 ∷ drop (at + 1) order
-    unread = drop-cons order at 0 more ∙ ap {B = List ℕ} (λ m. getD order at 0 ∷ drop m order) (sym (add-one at))
-
-    -- the first of the unread entries, as it is handed on
-    abbrev next : ℕ
-    next = getD (take (length order - at) (drop at order)) 0 0
-
-    next-is : next ≡ getD order at 0
-    next-is = let z : 0 < length order - at = omega arith in let e : at + 0 ≡ at = omega arith in rw (getD-take, getD-drop, e)
-
-    pub next-may : mayRun tops frames progress next ≡ true → OkFrom tops frames progress (getD order at 0)
-    next-may q = may-means (getD order at 0) (rw next-is at q)
-
-    pub stuck-here : mayRun tops frames progress next ≡ false → stuckOf tops frames progress (drop at order) ≡ 0
-    unfolding stuckOf
-    stuck-here q = rw (unread, rw next-is at q)
-
-    pub stuck-past : mayRun tops frames progress next ≡ true → stuckOf tops frames progress (drop at order) ≡ suc (stuckOf tops frames (set progress (getD order at 0) (getD progress (getD order at 0) 0 + 1)) (drop (at + 1) order))
-    unfolding stuckOf
-    stuck-past q = rw (unread, rw next-is at q)
-
-  pub stuck-end : (order : List ℕ) (at : ℕ) → length order ≤ at → stuckOf tops frames progress (drop at order) ≡ 0
+  -- ---- a loop over the entries: these are unread, and this is the progress then
+  pub stuck-here : (unread : List ℕ) → 0 < length unread → mayRun tops frames progress (getD unread 0 0) ≡ false → stuckOf tops frames progress unread ≡ 0
   unfolding stuckOf
-  stuck-end order at h = rw (drop-of-length-le order h)
+  stuck-here [] h q = refl
+  stuck-here (k ∷ ks) h q = rw q
+
+  -- the entries after the first
+  abbrev pub rest : List ℕ → List ℕ
+  rest unread = take (length unread - 1) (drop 1 unread)
+
+  -- of n entries: one more is read, and its stage has done one frame more
+  pub stuck-past : (unread : List ℕ) → 0 < length unread → mayRun tops frames progress (getD unread 0 0) ≡ true → (n : ℕ) → length unread ≤ n
+      → n - length (rest unread) + stuckOf tops frames (set progress (getD unread 0 0) (getD progress (getD unread 0 0) 0 + 1)) (rest unread) ≡ n - length unread + stuckOf tops frames progress unread
+  unfolding stuckOf
+  stuck-past [] h q n g = absurd (omega arith)
+  stuck-past (k ∷ ks) h q n g = let e : take (suc (length ks) - 1) ks ≡ ks = take-all (suc (length ks) - 1) ks (omega arith) in rw (e, q) (omega arith)
+
+  pub stuck-end : (unread : List ℕ) → length unread ≤ 0 → stuckOf tops frames progress unread ≡ 0
+  unfolding stuckOf
+  stuck-end [] h = refl
+  stuck-end (k ∷ ks) h = absurd (omega arith)

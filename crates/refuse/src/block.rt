@@ -93,22 +93,23 @@ fn may_run(tops: usize, frames: usize, progress: &[usize; 16], unread: &[usize])
     done < progress[k - 1]
 }
 
-// The place of the first entry that cannot be run, progress being counted entry by entry.
+// The place of the first entry that cannot be run, progress being counted entry by entry. The entries
+// still unread are handed on, from the first of them.
 fn first_stuck(tops: usize, frames: usize, progress: [usize; 16], order: &[usize]) -> usize
     requires { ⌜ tops ≤ 16 ⌝ }
     ensures { λ r. ⌜ r ≡ stuckOf tops frames progress (now (order .entry)) ⌝ }
 {
     let mut counted = progress;
-    let mut at = 0;
-    while at < order.len() {
-        if !may_run(tops, frames, &counted, &order[at..]) {
-            return at;
+    let mut unread = order;
+    while unread.len() > 0 {
+        if !may_run(tops, frames, &counted, unread) {
+            return order.len() - unread.len();
         }
-        let k = order[at];
+        let k = unread[0];
         counted[k] += 1;
-        at += 1;
+        unread = &unread[1..];
     }
-    at
+    order.len()
 }
 
 // The first sample of the frames that top stage 0 has not run; with no stage, the first of all.
