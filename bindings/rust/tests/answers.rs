@@ -252,12 +252,16 @@ fn words() {
     }
 }
 
-/// kira's clamp at both ends; a quarter of the rate is tan(pi / 4), which is 1 but for rounding.
+/// kira's clamp at both ends, tan(0.0001 pi) by its series; a quarter of the rate is tan(pi / 4), which is
+/// 1 but for rounding.
 #[test]
 fn tangents() {
+    assert!((g(0.0, 48_000) - 3.141_592_756_944_05e-4).abs() < 1e-17);
     assert_eq!(g(0.0, 48_000), g(4.8, 48_000));
-    assert_eq!(g(30_000.0, 48_000), g(24_000.0, 48_000));
+    assert!(g(4.8, 48_000) < g(4.9, 48_000));
     assert!((g(12_000.0, 48_000) - 1.0).abs() < 1e-15);
+    assert!(g(23_999.0, 48_000) < g(24_000.0, 48_000));
+    assert_eq!(g(30_000.0, 48_000), g(24_000.0, 48_000));
     for frequency in [0.0, 20.0, 1_000.0, 24_000.0, 1e9] {
         let g = g(frequency, 48_000);
         let stage = Stage::Filter { mode: FilterMode::LowPass, g, resonance: 0.0, mix: 1.0 };
