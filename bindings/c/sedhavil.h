@@ -1,0 +1,204 @@
+/* Sedhavil for C: the exported functions of the crate `face`, for x86-64 Linux.
+ *
+ *     rt staticlib face            writes target/staticlib/libface.a
+ *     cc host.c target/staticlib/libface.a
+ *
+ * A chain of at most 16 stages works on a block of at most 4,096 stereo frames. Nothing is kept
+ * between calls but what the caller lends and gets back: samples, memories, store and progress.
+ *
+ * Every call is answered. A number other than 0 is a refusal, and then nothing that was lent has
+ * changed (sedhavil_start alone leaves memories at zero, see there).
+ *
+ *   number  refused because                                          place
+ *   101     a slice has the wrong length                             0 stages, 1 positions, 2 floats, 3 progress
+ *   102     a kind or mode code is unknown, or a word does not fit   the first such stage
+ *   1       the rate is below 8,000 or above 192,000                 0
+ *   2       there are more than 16 stages                            0
+ *   3       a delay owns too many stages, or a stage is too deep     the first such stage
+ *   4       a setting is not finite or not in its range              the first such stage
+ *   5       the store is too short                                   the floats needed
+ *   6       a remembered position is not on its line                 the first such stage
+ *   7       the number of samples is odd                             0
+ *   8       there are more than 4,096 frames                         0
+ *   9       a progress is past the last frame or the stage before    the first such top stage
+ *   10      a sample that is still to be run is not finite           the first such sample
+ *   11      an entry of the order cannot be run                      the first such entry
+ *
+ * The first that applies is given: 101, then 102 (of all stages, those past the 16th too), then 1 to
+ * 11. Stages are counted in the list from 0. Top stages are those that no delay owns; progress and
+ * orders count only them, from 0.
+ *
+ * What is proved (crates/face, with specs/ to read): number, place and the end contents of all that is
+ * lent, for all values of the arguments. It is proved of slices as the language knows them, so the
+ * caller sees to it that
+ *   - each pointer points to as many elements as its length says, also where that is 0, and is not null;
+ *   - what is lent to be changed overlaps nothing else that is lent, and nobody else uses it meanwhile;
+ *   - the floating-point unit is in its default mode: rounding to nearest, no flush-to-zero, no
+ *     denormals-are-zero. An audio host that sets FTZ or DAZ (MXCSR) gets other bits wherever a number
+ *     below 2^-126 turns up; set the default mode around a call.
+ * All NaNs count as one value: the bits of a NaN are not promised.
+ */
+#ifndef SEDHAVIL_H
+#define SEDHAVIL_H
+
+#include <stddef.h>
+#include <stdint.h>
+#include <string.h>
+
+#ifdef __cplusplus
+extern "C" {
+#endif
+
+enum {
+    SEDHAVIL_MAX_STAGES = 16,
+    SEDHAVIL_MAX_FRAMES = 4096,
+    /* the lengths that slices must have */
+    SEDHAVIL_WORDS = 5,       /* of stages: this many for each */
+    SEDHAVIL_POSITIONS = 384, /* 24 for each of 16 places in the list */
+    SEDHAVIL_FLOATS = 320,    /* 20 for each of 16 places in the list */
+    SEDHAVIL_PROGRESS = 16    /* one for each top stage; those past the last one are ignored */
+};
+
+enum {
+    SEDHAVIL_ACCEPTED = 0,
+    SEDHAVIL_REFUSED_RATE = 1,
+    SEDHAVIL_REFUSED_STAGES = 2,
+    SEDHAVIL_REFUSED_SHAPE = 3,
+    SEDHAVIL_REFUSED_SETTING = 4,
+    SEDHAVIL_REFUSED_STORE = 5,
+    SEDHAVIL_REFUSED_POSITION = 6,
+    SEDHAVIL_REFUSED_SAMPLES = 7,
+    SEDHAVIL_REFUSED_FRAMES = 8,
+    SEDHAVIL_REFUSED_PROGRESS = 9,
+    SEDHAVIL_REFUSED_SAMPLE = 10,
+    SEDHAVIL_REFUSED_ENTRY = 11,
+    SEDHAVIL_REFUSED_LENGTH = 101,
+    SEDHAVIL_REFUSED_UNKNOWN = 102
+};
+
+typedef struct {
+    uint32_t number;
+    size_t place;
+} sedhavil_answer;
+
+/* ---- Functions. Each slice is a pointer and its length in elements.
+ *
+ * samples      left and right in turn; changed
+ * positions,   what stages remember beside their lines; changed. Zero is a fresh start
+ *   floats
+ * store        the lines of reverbs and delays; changed. Floats past the needed ones never are
+ * progress     how many frames of this block each top stage has run; changed. A new block starts at 0
+ * order        each entry names a top stage, which is run on its next frame
+ */
+
+/* Runs stages by an order, which need not finish the block. */
+sedhavil_answer sedhavil_run(uint32_t rate, const uint64_t *stages, size_t stages_length,
+                             float *samples, size_t samples_length,
+                             size_t *positions, size_t positions_length,
+                             float *floats, size_t floats_length,
+                             float *store, size_t store_length,
+                             size_t *progress, size_t progress_length,
+                             const size_t *order, size_t order_length);
+
+/* Runs every stage to the last frame, from wherever the block stands: what sedhavil_run leaves with any
+ * order that finishes it. */
+sedhavil_answer sedhavil_render(uint32_t rate, const uint64_t *stages, size_t stages_length,
+                                float *samples, size_t samples_length,
+                                size_t *positions, size_t positions_length,
+                                float *floats, size_t floats_length,
+                                float *store, size_t store_length,
+                                size_t *progress, size_t progress_length);
+
+/* A fresh start: refusals 1 to 5, then the needed floats of the store are cleared. Positions and floats
+ * are zero afterwards, refused 1 to 5 or not; 101 and 102 change nothing. */
+sedhavil_answer sedhavil_start(uint32_t rate, const uint64_t *stages, size_t stages_length,
+                               size_t *positions, size_t positions_length,
+                               float *floats, size_t floats_length,
+                               float *store, size_t store_length);
+
+/* How many floats the store needs: the place of an answer 0. Refusals 101, 102 and 1 to 4. */
+sedhavil_answer sedhavil_floats_needed(uint32_t rate, const uint64_t *stages, size_t stages_length);
+
+/* ---- A stage's five words: the kind, then its numbers; words that a kind does not use may hold anything.
+ * A level in whole dB is its two's complement, an f32 its bits in the low half, an f64 its bits. */
+
+enum {
+    SEDHAVIL_VOLUME_CONTROL = 0,
+    SEDHAVIL_PANNING_CONTROL = 1,
+    SEDHAVIL_DISTORTION = 2,
+    SEDHAVIL_FILTER = 3,
+    SEDHAVIL_EQ_FILTER = 4,
+    SEDHAVIL_REVERB = 5,
+    SEDHAVIL_DELAY = 6
+};
+
+typedef enum { SEDHAVIL_HARD_CLIP = 0, SEDHAVIL_SOFT_CLIP = 1 } sedhavil_clip;
+typedef enum { SEDHAVIL_LOW_PASS = 0, SEDHAVIL_BAND_PASS = 1, SEDHAVIL_HIGH_PASS = 2, SEDHAVIL_NOTCH = 3 } sedhavil_mode;
+typedef enum { SEDHAVIL_BELL = 0, SEDHAVIL_LOW_SHELF = 1, SEDHAVIL_HIGH_SHELF = 2 } sedhavil_band;
+
+static inline uint64_t sedhavil_level(int32_t decibels) {
+    return (uint64_t)(int64_t)decibels;
+}
+
+static inline uint64_t sedhavil_single(float x) {
+    uint32_t bits;
+    memcpy(&bits, &x, sizeof bits);
+    return bits;
+}
+
+static inline uint64_t sedhavil_double(double x) {
+    uint64_t bits;
+    memcpy(&bits, &x, sizeof bits);
+    return bits;
+}
+
+static inline void sedhavil_words(uint64_t *stage, uint64_t kind, uint64_t a, uint64_t b, uint64_t c, uint64_t d) {
+    stage[0] = kind;
+    stage[1] = a;
+    stage[2] = b;
+    stage[3] = c;
+    stage[4] = d;
+}
+
+/* volume: whole dB, at most 24; from -60 down is silence */
+static inline void sedhavil_volume_control(uint64_t *stage, int32_t volume) {
+    sedhavil_words(stage, SEDHAVIL_VOLUME_CONTROL, sedhavil_level(volume), 0, 0, 0);
+}
+
+/* panning: from -1, left, to 1, right; beyond is clamped */
+static inline void sedhavil_panning_control(uint64_t *stage, float panning) {
+    sedhavil_words(stage, SEDHAVIL_PANNING_CONTROL, sedhavil_single(panning), 0, 0, 0);
+}
+
+/* drive: whole dB, -59 to 24. mix, here and below: from 0, dry, to 1, wet; beyond is clamped */
+static inline void sedhavil_distortion(uint64_t *stage, sedhavil_clip kind, int32_t drive, float mix) {
+    sedhavil_words(stage, SEDHAVIL_DISTORTION, (uint64_t)kind, sedhavil_level(drive), sedhavil_single(mix), 0);
+}
+
+/* g: tan(pi * f / rate), with f / rate held to 0.0001..0.5 as kira does; 2^-13 to 10^17 is taken.
+ * resonance: 0 to 1; beyond is clamped */
+static inline void sedhavil_filter(uint64_t *stage, sedhavil_mode mode, double g, double resonance, float mix) {
+    sedhavil_words(stage, SEDHAVIL_FILTER, (uint64_t)mode, sedhavil_double(g), sedhavil_double(resonance), sedhavil_single(mix));
+}
+
+/* g: as of a filter. gain: whole dB, -24 to 24. q: 0 to 1,000; below 0.01 counts as 0.01 */
+static inline void sedhavil_eq_filter(uint64_t *stage, sedhavil_band kind, double g, int32_t gain, double q) {
+    sedhavil_words(stage, SEDHAVIL_EQ_FILTER, (uint64_t)kind, sedhavil_double(g), sedhavil_level(gain), sedhavil_double(q));
+}
+
+/* feedback, damping, stereo_width: each 0 to 1 */
+static inline void sedhavil_reverb(uint64_t *stage, float feedback, float damping, float stereo_width, float mix) {
+    sedhavil_words(stage, SEDHAVIL_REVERB, sedhavil_single(feedback), sedhavil_single(damping), sedhavil_single(stereo_width), sedhavil_single(mix));
+}
+
+/* frames: 1 to 480,000. feedback: whole dB, at most 24. owned: how many of the stages after it, nested
+ * ones counted, are its feedback stages */
+static inline void sedhavil_delay(uint64_t *stage, uint32_t frames, int32_t feedback, float mix, size_t owned) {
+    sedhavil_words(stage, SEDHAVIL_DELAY, frames, sedhavil_level(feedback), sedhavil_single(mix), owned);
+}
+
+#ifdef __cplusplus
+}
+#endif
+
+#endif

@@ -1,0 +1,151 @@
+//! The exported functions of `crates/face`, each taking slices: the one place with `unsafe`.
+//!
+//! A slice goes over as a pointer and a length. Rust's own rules for slices are what the proofs take for
+//! granted: each points to that many elements, and what is lent by `&mut` overlaps nothing else.
+
+#[repr(C)]
+#[derive(Clone, Copy)]
+pub struct Answer {
+    pub number: u32,
+    pub place: usize,
+}
+
+unsafe extern "C" {
+    fn sedhavil_run(
+        rate: u32,
+        stages: *const u64,
+        stages_length: usize,
+        samples: *mut f32,
+        samples_length: usize,
+        positions: *mut usize,
+        positions_length: usize,
+        floats: *mut f32,
+        floats_length: usize,
+        store: *mut f32,
+        store_length: usize,
+        progress: *mut usize,
+        progress_length: usize,
+        order: *const usize,
+        order_length: usize,
+    ) -> Answer;
+
+    fn sedhavil_render(
+        rate: u32,
+        stages: *const u64,
+        stages_length: usize,
+        samples: *mut f32,
+        samples_length: usize,
+        positions: *mut usize,
+        positions_length: usize,
+        floats: *mut f32,
+        floats_length: usize,
+        store: *mut f32,
+        store_length: usize,
+        progress: *mut usize,
+        progress_length: usize,
+    ) -> Answer;
+
+    fn sedhavil_start(
+        rate: u32,
+        stages: *const u64,
+        stages_length: usize,
+        positions: *mut usize,
+        positions_length: usize,
+        floats: *mut f32,
+        floats_length: usize,
+        store: *mut f32,
+        store_length: usize,
+    ) -> Answer;
+
+    fn sedhavil_floats_needed(rate: u32, stages: *const u64, stages_length: usize) -> Answer;
+}
+
+#[allow(clippy::too_many_arguments)]
+pub fn run(
+    rate: u32,
+    stages: &[u64],
+    samples: &mut [f32],
+    positions: &mut [usize],
+    floats: &mut [f32],
+    store: &mut [f32],
+    progress: &mut [usize],
+    order: &[usize],
+) -> Answer {
+    // SAFETY: each pointer and length is a slice's, and the function is proved to stay within them.
+    unsafe {
+        sedhavil_run(
+            rate,
+            stages.as_ptr(),
+            stages.len(),
+            samples.as_mut_ptr(),
+            samples.len(),
+            positions.as_mut_ptr(),
+            positions.len(),
+            floats.as_mut_ptr(),
+            floats.len(),
+            store.as_mut_ptr(),
+            store.len(),
+            progress.as_mut_ptr(),
+            progress.len(),
+            order.as_ptr(),
+            order.len(),
+        )
+    }
+}
+
+pub fn render(
+    rate: u32,
+    stages: &[u64],
+    samples: &mut [f32],
+    positions: &mut [usize],
+    floats: &mut [f32],
+    store: &mut [f32],
+    progress: &mut [usize],
+) -> Answer {
+    // SAFETY: as of `run`.
+    unsafe {
+        sedhavil_render(
+            rate,
+            stages.as_ptr(),
+            stages.len(),
+            samples.as_mut_ptr(),
+            samples.len(),
+            positions.as_mut_ptr(),
+            positions.len(),
+            floats.as_mut_ptr(),
+            floats.len(),
+            store.as_mut_ptr(),
+            store.len(),
+            progress.as_mut_ptr(),
+            progress.len(),
+        )
+    }
+}
+
+pub fn start(
+    rate: u32,
+    stages: &[u64],
+    positions: &mut [usize],
+    floats: &mut [f32],
+    store: &mut [f32],
+) -> Answer {
+    // SAFETY: as of `run`.
+    unsafe {
+        sedhavil_start(
+            rate,
+            stages.as_ptr(),
+            stages.len(),
+            positions.as_mut_ptr(),
+            positions.len(),
+            floats.as_mut_ptr(),
+            floats.len(),
+            store.as_mut_ptr(),
+            store.len(),
+        )
+    }
+}
+
+pub fn floats_needed(rate: u32, stages: &[u64]) -> Answer {
+    // SAFETY: as of `run`.
+    unsafe { sedhavil_floats_needed(rate, stages.as_ptr(), stages.len()) }
+}
