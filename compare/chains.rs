@@ -14,10 +14,12 @@ mod fed;
 mod inputs;
 mod judge;
 mod kira_chain;
+mod listed;
 mod panics;
 mod rates;
 mod shrink;
 mod small;
+mod smaller;
 mod spoilt;
 mod stage;
 mod table;
@@ -68,13 +70,17 @@ fn compare_cases(
 fn compare_round(seed: u64, rates: &Rates, seen: &mut Seen) -> bool {
     println!("seed {seed:#x}");
     let random = &mut Random(fed::scrambled(seed));
-    let chains = compare_cases("random chains", "chains", CHAINS, seen, || {
+    let refused = seen.refused();
+    let mut same = compare_cases("random chains", "chains", CHAINS, seen, || {
         drawn::case(random, rates)
     });
-    let calls = compare_cases("random calls", "calls", CALLS, seen, || {
+    if seen.refused() > refused {
+        println!("a random chain was drawn that is refused");
+        same = false;
+    }
+    same & compare_cases("random calls", "calls", CALLS, seen, || {
         spoilt::case(random, rates)
-    });
-    chains & calls
+    })
 }
 
 // Each with its name, in a row.

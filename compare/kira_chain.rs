@@ -12,7 +12,8 @@ use kira::{Decibels, Frame, Mix, Value};
 use std::sync::{Arc, Mutex};
 use std::time::Duration;
 
-const FLOATS: usize = 20;
+// of the memories, at each list place
+pub const FLOATS: usize = 20;
 
 enum Kept {
     Alone(Box<dyn Remembering>),
