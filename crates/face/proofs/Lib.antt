@@ -1,0 +1,5 @@
+pub mod Calls
+pub mod Copied
+pub mod Levels
+pub mod OneOutcome
+pub mod Stages

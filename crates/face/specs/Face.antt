@@ -1,0 +1,57 @@
+-- What each exported function answers and leaves: by its words, what the crate `chain` answers and leaves; where the call cannot be read, that fault, and everything as it was. Definitions only.
+use mathlib.Core.Bool.{cond}
+use mathlib.Core.List.{List, []}
+use Prim.Native.Nat.{ℕ}
+use lib.Dec.{eqb}
+use lib.Ieee.{Float}
+use lib.ListN.{length}
+use Rattle.line.specs.Held.{Held, holds}
+use Rattle.order.specs.Chain.{State}
+use Rattle.refuse.specs.declared.answer.Answer as refuse
+use Rattle.refuse.specs.Answer.{numberOf, placeOf}
+use Rattle.refuse.specs.Refusals.{chainAnswer}
+use Rattle.chain.specs.Memories.{zeroMemories}
+use Rattle.chain.specs.Run.{answerOn, leftOf, renderedOf}
+use Rattle.chain.specs.Start.{startedOf}
+use Rattle.face.specs.declared.Answer.{Answer}
+use Rattle.face.specs.Words.{countOf, stagesOf}
+use Rattle.face.specs.Call.{answer, answerOut, faultOf, read}
+
+-- ---- run and render: of the words, and of samples, store, memories and progress as they were
+
+abbrev pub blockFault : List ℕ → State Float Held → Answer
+blockFault words s = faultOf words (length (s .held .positions)) (length (s .held .floats)) (length (s .progress))
+
+unfoldable pub runAnswer : ℕ → List ℕ → State Float Held → List ℕ → Answer
+runAnswer rate words s order = read (blockFault words s) (answerOut (answerOn rate (stagesOf words) (countOf words) s order)) (blockFault words s)
+
+unfoldable pub runLeft : ℕ → List ℕ → State Float Held → List ℕ → State Float Held
+runLeft rate words s order = read (blockFault words s) (leftOf rate (stagesOf words) (countOf words) s order) s
+
+unfoldable pub renderAnswer : ℕ → List ℕ → State Float Held → Answer
+renderAnswer rate words s = read (blockFault words s) (answerOut (answerOn rate (stagesOf words) (countOf words) s [])) (blockFault words s)
+
+unfoldable pub renderLeft : ℕ → List ℕ → State Float Held → State Float Held
+renderLeft rate words s = read (blockFault words s) (renderedOf rate (stagesOf words) (countOf words) s) s
+
+-- ---- start: of the words, the store and the memories; memories are at zero, refused 1 to 5 or not
+
+abbrev pub startFault : List ℕ → Held → Answer
+startFault words h = faultOf words (length (h .positions)) (length (h .floats)) 16
+
+unfoldable pub startAnswer : ℕ → List ℕ → Held → Answer
+startAnswer rate words h = read (startFault words h) (answerOut (chainAnswer rate (stagesOf words) (countOf words) (length (h .store)))) (startFault words h)
+
+unfoldable pub startLeft : ℕ → List ℕ → Held → Held
+startLeft rate words h =
+    read (startFault words h)
+    (holds (startedOf rate (stagesOf words) (countOf words) (h .store)) (zeroMemories .positions) (zeroMemories .floats))
+    h
+
+-- ---- floats needed: where a store of no floats is refused only for want of room, the room it wants
+
+unfoldable pub roomOut : refuse.Answer → Answer
+roomOut a = cond (eqb (numberOf a) 5) (answer 0 (placeOf a)) (answerOut a)
+
+unfoldable pub neededAnswer : ℕ → List ℕ → Answer
+neededAnswer rate words = read (faultOf words 384 320 16) (roomOut (chainAnswer rate (stagesOf words) (countOf words) 0)) (faultOf words 384 320 16)

@@ -1,0 +1,190 @@
+// The crate `chain` for C and Rust to link, with flat arguments: five words a stage, memories and progress
+// in slices. Anything may be passed in: a slice of the wrong length gets answer 101, words that are no stage
+// get 102, both before document 01's checks; refused means untouched.
+ghost use mathlib.Core.Path.{_≡_};
+ghost use lib.ListN.{length};
+ghost use Rattle.line.specs.Held.{holds};
+ghost use Rattle.chain.specs.Chain.{state};
+ghost use Rattle.face.specs.Call.{answerOut, faultOf};
+ghost use Rattle.face.specs.Face.{runAnswer, runLeft, renderAnswer, renderLeft, startAnswer, startLeft, roomOut, neededAnswer};
+use refuse::answer;
+
+mod slices;
+mod words;
+
+// Document 01's number and place; 101 or 102 for a call that cannot be read; 0 for an accepted one.
+#[repr(C)]
+pub struct Answer {
+    pub number: u32,
+    pub place: usize,
+}
+
+fn answer_out(given: answer::Answer) -> Answer
+    ensures { λ r. ⌜ r ≡ answerOut given ⌝ }
+{
+    Answer {
+        number: answer::number(given),
+        place: answer::place(given),
+    }
+}
+
+fn room_out(given: answer::Answer) -> Answer
+    ensures { λ r. ⌜ r ≡ roomOut given ⌝ }
+{
+    let number = answer::number(given);
+    if number == 5 {
+        return Answer {
+            number: 0,
+            place: answer::place(given),
+        };
+    }
+    answer_out(given)
+}
+
+// Why the call cannot be read, or number 0.
+fn fault_of(stages: &[u64], positions: usize, floats: usize, progress: usize) -> Answer
+    ensures { λ r. ⌜ r ≡ faultOf (now (stages .entry)) positions floats progress ⌝ }
+{
+    if stages.len() % 5 != 0 {
+        return Answer {
+            number: 101,
+            place: 0,
+        };
+    }
+    if positions != 384 {
+        return Answer {
+            number: 101,
+            place: 1,
+        };
+    }
+    if floats != 320 {
+        return Answer {
+            number: 101,
+            place: 2,
+        };
+    }
+    if progress != 16 {
+        return Answer {
+            number: 101,
+            place: 3,
+        };
+    }
+    let unknown = words::first_unknown(stages);
+    if unknown < stages.len() / 5 {
+        return Answer {
+            number: 102,
+            place: unknown,
+        };
+    }
+    Answer {
+        number: 0,
+        place: 0,
+    }
+}
+
+// Steps of top stages in a given order.
+#[no_mangle]
+pub extern "C" fn sedhavil_run(
+    rate: u32,
+    stages: &[u64],
+    samples: &mut [f32],
+    positions: &mut [usize],
+    floats: &mut [f32],
+    store: &mut [f32],
+    progress: &mut [usize],
+    order: &[usize],
+) -> Answer
+    ensures answer { λ r. ⌜ r ≡ runAnswer rate (now (stages .entry)) (state (now (samples .entry)) (now (store .entry)) (now (positions .entry)) (now (floats .entry)) (now (progress .entry))) (now (order .entry)) ⌝ }
+    ensures left { λ r. ⌜ state (now (samples .exit)) (now (store .exit)) (now (positions .exit)) (now (floats .exit)) (now (progress .exit))
+        ≡ runLeft rate (now (stages .entry)) (state (now (samples .entry)) (now (store .entry)) (now (positions .entry)) (now (floats .entry)) (now (progress .entry))) (now (order .entry)) ⌝ }
+{
+    let fault = fault_of(stages, positions.len(), floats.len(), progress.len());
+    if fault.number != 0 {
+        return fault;
+    }
+    let outcome = chain::run::run(
+        rate,
+        words::stages_of(stages),
+        stages.len() / 5,
+        samples,
+        slices::gathered(positions, floats),
+        store,
+        slices::progress_of(progress),
+        order,
+    );
+    let done = outcome.progress;
+    slices::scatter(outcome.memories, positions, floats);
+    slices::copy_numbers(&done, progress);
+    let answer = outcome.answer;
+    answer_out(answer)
+}
+
+// Every stage to the last frame.
+#[no_mangle]
+pub extern "C" fn sedhavil_render(
+    rate: u32,
+    stages: &[u64],
+    samples: &mut [f32],
+    positions: &mut [usize],
+    floats: &mut [f32],
+    store: &mut [f32],
+    progress: &mut [usize],
+) -> Answer
+    ensures answer { λ r. ⌜ r ≡ renderAnswer rate (now (stages .entry)) (state (now (samples .entry)) (now (store .entry)) (now (positions .entry)) (now (floats .entry)) (now (progress .entry))) ⌝ }
+    ensures left { λ r. ⌜ state (now (samples .exit)) (now (store .exit)) (now (positions .exit)) (now (floats .exit)) (now (progress .exit))
+        ≡ renderLeft rate (now (stages .entry)) (state (now (samples .entry)) (now (store .entry)) (now (positions .entry)) (now (floats .entry)) (now (progress .entry))) ⌝ }
+{
+    let fault = fault_of(stages, positions.len(), floats.len(), progress.len());
+    if fault.number != 0 {
+        return fault;
+    }
+    let outcome = chain::render::render(
+        rate,
+        words::stages_of(stages),
+        stages.len() / 5,
+        samples,
+        slices::gathered(positions, floats),
+        store,
+        slices::progress_of(progress),
+    );
+    let done = outcome.progress;
+    slices::scatter(outcome.memories, positions, floats);
+    slices::copy_numbers(&done, progress);
+    let answer = outcome.answer;
+    answer_out(answer)
+}
+
+// A fresh start: the needed floats of the store and all memories at zero.
+#[no_mangle]
+pub extern "C" fn sedhavil_start(
+    rate: u32,
+    stages: &[u64],
+    positions: &mut [usize],
+    floats: &mut [f32],
+    store: &mut [f32],
+) -> Answer
+    ensures answer { λ r. ⌜ r ≡ startAnswer rate (now (stages .entry)) (holds (now (store .entry)) (now (positions .entry)) (now (floats .entry))) ⌝ }
+    ensures left { λ r. ⌜ holds (now (store .exit)) (now (positions .exit)) (now (floats .exit))
+        ≡ startLeft rate (now (stages .entry)) (holds (now (store .entry)) (now (positions .entry)) (now (floats .entry))) ⌝ }
+{
+    let fault = fault_of(stages, positions.len(), floats.len(), 16);
+    if fault.number != 0 {
+        return fault;
+    }
+    let started = chain::start::start(rate, words::stages_of(stages), stages.len() / 5, store);
+    slices::scatter(started.memories, positions, floats);
+    let answer = started.answer;
+    answer_out(answer)
+}
+
+// How many floats the store needs, as the place of an answer 0.
+#[no_mangle]
+pub extern "C" fn sedhavil_floats_needed(rate: u32, stages: &[u64]) -> Answer
+    ensures { λ r. ⌜ r ≡ neededAnswer rate (now (stages .entry)) ⌝ }
+{
+    let fault = fault_of(stages, 384, 320, 16);
+    if fault.number != 0 {
+        return fault;
+    }
+    room_out(refuse::check::check_chain(rate, words::stages_of(stages), stages.len() / 5, 0))
+}

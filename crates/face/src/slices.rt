@@ -1,0 +1,56 @@
+// What stages remember goes in and comes back in lent slices; the crate `chain` has it in arrays.
+ghost use mathlib.Core.Path.{_≡_};
+ghost use lib.ListN.{length};
+use chain::memories::Memories;
+
+pub(crate) fn copy_numbers(from: &[usize], to: &mut [usize])
+    requires { ⌜ length (now to) ≡ length (now from) ⌝ }
+    ensures { λ _. ⌜ now (to .exit) ≡ now (from .entry) ⌝ }
+{
+    let mut i = 0;
+    while i < from.len() {
+        to[i] = from[i];
+        i += 1;
+    }
+}
+
+fn copy_floats(from: &[f32], to: &mut [f32])
+    requires { ⌜ length (now to) ≡ length (now from) ⌝ }
+    ensures { λ _. ⌜ now (to .exit) ≡ now (from .entry) ⌝ }
+{
+    let mut i = 0;
+    while i < from.len() {
+        to[i] = from[i];
+        i += 1;
+    }
+}
+
+pub(crate) fn gathered(from_positions: &[usize], from_floats: &[f32]) -> Memories
+    requires { ⌜ (length (now «from_positions») ≡ 384) × (length (now «from_floats») ≡ 320) ⌝ }
+    ensures { λ r. ⌜ (r .positions ≡ now («from_positions» .entry)) × (r .floats ≡ now («from_floats» .entry)) ⌝ }
+{
+    let mut positions = [0; 384];
+    let mut floats = [0.0; 320];
+    copy_numbers(from_positions, &mut positions);
+    copy_floats(from_floats, &mut floats);
+    Memories { positions, floats }
+}
+
+pub(crate) fn scatter(memories: Memories, to_positions: &mut [usize], to_floats: &mut [f32])
+    requires { ⌜ (length (now «to_positions») ≡ 384) × (length (now «to_floats») ≡ 320) ⌝ }
+    ensures { λ _. ⌜ (now («to_positions» .exit) ≡ memories .positions) × (now («to_floats» .exit) ≡ memories .floats) ⌝ }
+{
+    let positions = memories.positions;
+    let floats = memories.floats;
+    copy_numbers(&positions, to_positions);
+    copy_floats(&floats, to_floats);
+}
+
+pub(crate) fn progress_of(progress: &[usize]) -> [usize; 16]
+    requires { ⌜ length (now progress) ≡ 16 ⌝ }
+    ensures { λ r. ⌜ r ≡ now (progress .entry) ⌝ }
+{
+    let mut done = [0; 16];
+    copy_numbers(progress, &mut done);
+    done
+}
