@@ -69,7 +69,8 @@ fn compare_cases(
 
 fn compare_round(seed: u64, rates: &Rates, seen: &mut Seen) -> bool {
     println!("seed {seed:#x}");
-    let random = &mut Random(fed::scrambled(seed));
+    // from 0 only zeros would come
+    let random = &mut Random(fed::scrambled(seed).max(1));
     let refused = seen.refused();
     let mut same = compare_cases("random chains", "chains", CHAINS, seen, || {
         drawn::case(random, rates)

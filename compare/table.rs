@@ -1,6 +1,6 @@
-// Document 01's table of eleven refusals, read once more and plainly: one function a row, each with
-// the row's place, and the first row that applies. Written from the document alone, with no look at
-// the crates that do the same.
+// Document 01's table of eleven refusals, read once more and plainly: each row with its place, and the
+// first that applies. Written from the document, and for its open places from docs/DECISIONS.md, with
+// no look at the crates that do the same.
 
 #[derive(Clone, Copy, Debug)]
 pub enum Stage {
