@@ -27,6 +27,8 @@ pub fn bits32(x: f32) -> u64 {
     }
 }
 
+// chains.rs has no f64 to compare
+#[allow(dead_code)]
 pub fn bits64(x: f64) -> u64 {
     if x.is_nan() {
         0x7ff8_0000_0000_0000

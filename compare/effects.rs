@@ -3,20 +3,26 @@
 //
 //   effects            a line for each kind: how many frames, and how many of them differ
 //   effects --search   prints directed.rs
+mod alone;
 mod common;
 mod directed;
 mod fed;
+mod inputs;
 mod oddities;
 mod regrouped;
 mod stage;
+mod tally;
 
+use alone::{Answer, Kira, Memory, Pair, kira_coefficients, ours};
 use common::{Random, bits32, bits64};
 use directed::DIRECTED;
+use inputs::{audible, drive, gain, key, mix, panning, q, resonance, sample, volume};
 use oddities::ODDITIES;
 use regrouped::{CHANGES, Change};
-use stage::{Answer, Kira, Memory, Pair, Stage, kira_coefficients, ours};
+use stage::Stage;
 use std::hint::black_box;
 use std::process::ExitCode;
+use tally::Tally;
 
 unsafe extern "C" {
     safe fn sedhavil_amplitude(decibels: i32) -> f32;
@@ -25,136 +31,14 @@ unsafe extern "C" {
 }
 
 // Frames that stand alone, for each kind; runs, and the frames of each; settings of coefficients;
-// inputs found against each change, beside those of directed.rs; and differences that are printed.
+// and inputs found against each change, beside those of directed.rs.
 const ALONE: u64 = 1_000_000;
 const RUNS: u64 = 1_000;
 const LENGTH: usize = 1_000;
 const SETTINGS: u64 = 1_000_000;
 const FOUND: u64 = 1_000;
-const SHOWN: u64 = 5;
 
 // ---- inputs
-
-impl Random {
-    fn one_of<T: Copy>(&mut self, values: &[T]) -> T {
-        values[self.below(values.len() as u64) as usize]
-    }
-
-    fn between(&mut self, low: i32, high: i32) -> i32 {
-        low + self.below((high - low + 1) as u64) as i32
-    }
-
-    // from 0 to below 1
-    fn unit(&mut self) -> f64 {
-        (self.next() >> 11) as f64 / (1u64 << 53) as f64
-    }
-
-    fn any_f32(&mut self) -> f32 {
-        f32::from_bits(self.next() as u32)
-    }
-
-    fn any_f64(&mut self) -> f64 {
-        f64::from_bits(self.next())
-    }
-}
-
-const LEAST: f32 = f32::from_bits(1);
-const HALF_UNIT: f32 = f32::EPSILON / 2.0;
-
-// For samples, mixes and pannings alike.
-const SINGLES: [f32; 30] = [
-    0.0,
-    -0.0,
-    1.0,
-    -1.0,
-    0.5,
-    -0.5,
-    2.0,
-    -2.0,
-    1.0 + f32::EPSILON,
-    -1.0 - f32::EPSILON,
-    1.0 - HALF_UNIT,
-    -1.0 + HALF_UNIT,
-    f32::EPSILON,
-    HALF_UNIT,
-    -HALF_UNIT,
-    // 2^-30
-    9.313226e-10,
-    -9.313226e-10,
-    LEAST,
-    -LEAST,
-    // the largest subnormal
-    1.1754942e-38,
-    -1.1754942e-38,
-    f32::MIN_POSITIVE,
-    -f32::MIN_POSITIVE,
-    f32::MAX,
-    f32::MIN,
-    1e30,
-    -1e30,
-    f32::INFINITY,
-    f32::NEG_INFINITY,
-    f32::NAN,
-];
-
-// For resonances.
-const DOUBLES: [f64; 18] = [
-    0.0,
-    -0.0,
-    1.0,
-    -1.0,
-    0.5,
-    2.0,
-    1.0 - f64::EPSILON / 2.0,
-    1.0 + f64::EPSILON,
-    f64::EPSILON,
-    5e-324,
-    -5e-324,
-    f64::MIN_POSITIVE,
-    0.1,
-    f64::MAX,
-    f64::MIN,
-    f64::INFINITY,
-    f64::NEG_INFINITY,
-    f64::NAN,
-];
-
-const QS: [f64; 22] = [
-    0.0,
-    -0.0,
-    0.01,
-    f64::from_bits(0x3f84_7ae1_47ae_147a),
-    f64::from_bits(0x3f84_7ae1_47ae_147c),
-    0.009,
-    0.02,
-    1000.0,
-    f64::from_bits(0x408f_3fff_ffff_ffff),
-    1.0,
-    0.5,
-    std::f64::consts::FRAC_1_SQRT_2,
-    2.0,
-    10.0,
-    5e-324,
-    f64::MIN_POSITIVE,
-    -1.0,
-    1e300,
-    f64::MIN,
-    f64::INFINITY,
-    f64::NEG_INFINITY,
-    f64::NAN,
-];
-
-fn audible(random: &mut Random) -> f32 {
-    random.below(1 << 25) as f32 / (1 << 24) as f32 - 1.0
-}
-
-fn sample(random: &mut Random) -> f32 {
-    match random.below(8) {
-        0 => random.one_of(&SINGLES),
-        1 | 2 => random.any_f32(),
-        _ => audible(random),
-    }
-}
 
 fn pair(of: fn(&mut Random) -> f32, random: &mut Random) -> Pair {
     Pair {
@@ -167,68 +51,6 @@ fn memory(of: fn(&mut Random) -> f32, random: &mut Random) -> Memory {
     Memory {
         ic1eq: pair(of, random),
         ic2eq: pair(of, random),
-    }
-}
-
-fn mix(random: &mut Random) -> f32 {
-    match random.below(8) {
-        0 | 1 => random.one_of(&SINGLES),
-        2 => random.any_f32(),
-        _ => random.unit() as f32,
-    }
-}
-
-fn panning(random: &mut Random) -> f32 {
-    match random.below(8) {
-        0 | 1 => random.one_of(&SINGLES),
-        2 => random.any_f32(),
-        _ => audible(random),
-    }
-}
-
-fn resonance(random: &mut Random) -> f64 {
-    match random.below(8) {
-        0 | 1 => random.one_of(&DOUBLES),
-        2 => random.any_f64(),
-        _ => random.unit(),
-    }
-}
-
-fn q(random: &mut Random) -> f64 {
-    match random.below(8) {
-        0 | 1 => random.one_of(&QS),
-        2 => random.any_f64(),
-        3 => 1000.0 * random.unit(),
-        // each power of two from 2^-8 on as often
-        _ => (1.0 + random.unit()) * 2.0f64.powi(random.between(-8, 9)),
-    }
-}
-
-fn volume(random: &mut Random) -> i32 {
-    match random.below(8) {
-        0 => random.one_of(&[24, 0, -59, -60, -61, -1000, i32::MIN]),
-        _ => random.between(-61, 24),
-    }
-}
-
-// Down to -60 dB, where both sides divide 0 by 0; a stage may not have that.
-fn drive(random: &mut Random) -> i32 {
-    match random.below(32) {
-        0 => random.one_of(&[-60, -61, i32::MIN]),
-        1 => random.one_of(&[0, -59, 24]),
-        _ => random.between(-59, 24),
-    }
-}
-
-fn gain(random: &mut Random) -> i32 {
-    random.between(-24, 24)
-}
-
-fn key(random: &mut Random) -> u64 {
-    match random.below(16) {
-        0 => random.below(fed::EDGES.len() as u64),
-        1 => random.below(fed::PROPER),
-        _ => random.next() >> 16,
     }
 }
 
@@ -318,42 +140,6 @@ const KINDS: [Kind; 11] = [
 
 // ---- the comparison
 
-struct Tally {
-    name: String,
-    unit: &'static str,
-    count: u64,
-    differences: u64,
-}
-
-impl Tally {
-    fn new(name: impl Into<String>, unit: &'static str) -> Self {
-        Self {
-            name: name.into(),
-            unit,
-            count: 0,
-            differences: 0,
-        }
-    }
-
-    fn check(&mut self, same: bool, say: impl FnOnce() -> String) {
-        self.count += 1;
-        if !same {
-            self.differences += 1;
-            if self.differences <= SHOWN {
-                println!("  {}: {}", self.name, say());
-            }
-        }
-    }
-
-    fn close(self) -> bool {
-        println!(
-            "{:<28}{:>12} {:<8} {:>6} differences",
-            self.name, self.count, self.unit, self.differences
-        );
-        self.differences == 0
-    }
-}
-
 fn check_frame(
     tally: &mut Tally,
     stage: Stage,
@@ -438,7 +224,7 @@ fn compare_runs(tally: &mut Tally, kind: &Kind, random: &mut Random) {
             after,
         });
         if ours.bits() != kira.bits() {
-            tally.check(false, || {
+            tally.differ(|| {
                 format!("{stage:?} on {start:?} at the end: ours {ours:?}, kira's {kira:?}")
             });
         }
@@ -467,7 +253,7 @@ fn compare_coefficients() -> bool {
         for _ in 0..SETTINGS {
             let (key, q, gain) = (key(&mut random), q(&mut random), gain(&mut random));
             let kira = kira_coefficients(kind, key, q, gain);
-            let c = stage::sedhavil_coefficients(kind, fed::tangent(key), q, gain);
+            let c = alone::sedhavil_coefficients(kind, fed::tangent(key), q, gain);
             let ours = [c.a1, c.a2, c.a3, c.m0, c.m1, c.m2];
             let is_same = ours.map(bits64) == kira.map(bits64)
                 && ours.map(|c| sedhavil_as_f32(c)).map(bits32)
@@ -483,7 +269,7 @@ fn compare_coefficients() -> bool {
     for _ in 0..SETTINGS {
         let (key, q) = (key(&mut random), q(&mut random));
         let kira = kira_coefficients(0, key, q, 0);
-        let w = stage::sedhavil_weigh(fed::tangent(key), 1.0 / q.max(0.01));
+        let w = alone::sedhavil_weigh(fed::tangent(key), 1.0 / q.max(0.01));
         let ours = [w.a1, w.a2, w.a3];
         tally.check(ours.map(bits64)[..] == kira.map(bits64)[..3], || {
             format!("key {key:#x}, q {q:?}: ours {ours:?}, kira's {kira:?}")

@@ -71,7 +71,7 @@ extern "C" fn tan(x: f64) -> f64 {
 
 // The first keys' tangents: the ends of the range and their neighbours, the ends of kira's own, some
 // from between, and some that no stage may have, since `process` answers those too.
-pub const EDGES: [f64; 24] = [
+pub const EDGES: [f64; 26] = [
     f64::from_bits(0x3f20_0000_0000_0000), // 2^-13
     f64::from_bits(0x3f20_0000_0000_0001),
     1e17,
@@ -88,6 +88,9 @@ pub const EDGES: [f64; 24] = [
     0.25,
     3.0,
     1e16,
+    // just below 2^-13, just above 10^17
+    f64::from_bits(0x3f1f_ffff_ffff_ffff),
+    f64::from_bits(0x4376_3457_85d8_a001),
     0.0,
     -0.0,
     -1.0,
@@ -113,7 +116,7 @@ pub fn tangent(key: u64) -> f64 {
 }
 
 // The last steps of SplitMix64.
-fn scrambled(key: u64) -> u64 {
+pub fn scrambled(key: u64) -> u64 {
     let a = (key ^ key >> 30).wrapping_mul(0xbf58_476d_1ce4_e5b9);
     let b = (a ^ a >> 27).wrapping_mul(0x94d0_49bb_1331_11eb);
     b ^ b >> 31

@@ -1,6 +1,7 @@
 // What kira does at inputs that a reader would not expect, as docs/DIFFERENCES.md tells it: each with
 // the frame that comes out.
-use crate::stage::{Memory, Pair, Stage};
+use crate::alone::{Memory, Pair};
+use crate::stage::Stage;
 
 pub struct Oddity {
     pub what: &'static str,

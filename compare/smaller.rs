@@ -1,0 +1,183 @@
+// A case made smaller or plainer in one place.
+use crate::case::{Case, Listed, What};
+use crate::kira_chain::FLOATS;
+use crate::stage::Stage;
+use crate::table::POSITIONS;
+
+// Without so many stages from a place on: without their lines and memories, and where one was a top
+// stage, without its progress and its entries.
+pub fn without(case: &Case, place: usize, count: usize) -> Case {
+    let mut case = case.clone();
+    let top = case.tops().iter().position(|&top| top == place);
+    let floats = |stages: &[Listed], rate| stages.iter().map(|s| s.floats(rate)).sum::<usize>();
+    let start = floats(&case.stages[..place], case.rate);
+    let end = start + floats(&case.stages[place..place + count], case.rate);
+    let held = &mut case.held;
+    if end <= held.store.len() {
+        held.store.drain(start..end);
+    }
+    if place + count <= 16 && held.positions.len() == 384 && held.floats.len() == 320 {
+        held.positions
+            .drain(POSITIONS * place..POSITIONS * (place + count));
+        held.positions.resize(384, 0);
+        held.floats.drain(FLOATS * place..FLOATS * (place + count));
+        held.floats.resize(320, 0.0);
+    }
+    let is_alone = count == 1 && case.stages[place].owned() > 0;
+    case.stages.drain(place..place + count);
+    for (j, stage) in case.stages[..place].iter_mut().enumerate() {
+        if let Listed::Delay { owned, .. } = stage
+            && *owned >= place - j
+        {
+            *owned = owned.saturating_sub(count);
+        }
+    }
+    if let Some(top) = top.filter(|_| !is_alone) {
+        if top < case.held.progress.len() {
+            case.held.progress.remove(top);
+            case.held.progress.push(0);
+        }
+        for call in &mut case.calls {
+            if let What::Run(order) = &mut call.what {
+                order.retain(|&k| k != top);
+                order.iter_mut().filter(|k| **k > top).for_each(|k| *k -= 1);
+            }
+        }
+    }
+    case
+}
+
+// Without the entries that cannot be taken.
+pub fn tidied(case: &Case) -> Case {
+    let mut case = case.clone();
+    let tops = case.tops().len().min(case.held.progress.len());
+    let mut frames = case.held.samples.len() / 2;
+    for k in 1..tops {
+        let most = case.held.progress[k - 1];
+        case.held.progress[k] = case.held.progress[k].min(most);
+    }
+    let mut done = case.held.progress[..tops].to_vec();
+    for call in &mut case.calls {
+        if let Some(block) = &call.block {
+            (frames, done) = (block.len() / 2, vec![0; tops]);
+        }
+        match &mut call.what {
+            What::Run(order) => order.retain(|&k| {
+                let may = k < tops && done[k] < frames && (k == 0 || done[k] < done[k - 1]);
+                if may {
+                    done[k] += 1;
+                }
+                may
+            }),
+            What::Render => done.fill(frames),
+            _ => {}
+        }
+    }
+    case
+}
+
+// Another stage at a place, with the front of the old one's line.
+pub fn replace(case: &mut Case, place: usize, stage: Listed) {
+    let start: usize = case.stages[..place]
+        .iter()
+        .map(|s| s.floats(case.rate))
+        .sum();
+    let (old, new) = (
+        case.stages[place].floats(case.rate),
+        stage.floats(case.rate),
+    );
+    if new < old && start + old <= case.held.store.len() {
+        case.held.store.drain(start + new..start + old);
+        if let Some(position) = case.held.positions.get_mut(POSITIONS * place) {
+            *position = 0;
+        }
+    }
+    case.stages[place] = stage;
+}
+
+// The same kind with plainer numbers, one at a time and all at once; or a volume control.
+pub fn plainer(stage: Listed) -> Vec<Listed> {
+    let still = Listed::Alone(Stage::Volume { volume: 0 });
+    match stage {
+        Listed::Alone(Stage::Volume { volume: 0 }) => vec![],
+        Listed::Alone(Stage::Volume { .. }) => vec![still],
+        Listed::Alone(Stage::Panning { .. }) => vec![still],
+        Listed::Alone(Stage::Distortion { kind, drive, mix }) => {
+            let of = |drive, mix| Listed::Alone(Stage::Distortion { kind, drive, mix });
+            vec![still, of(0, mix), of(drive, 1.0), of(0, 1.0)]
+        }
+        Listed::Alone(Stage::Filter {
+            mode,
+            key,
+            resonance,
+            mix,
+        }) => {
+            let of = |key, resonance, mix| {
+                Listed::Alone(Stage::Filter {
+                    mode,
+                    key,
+                    resonance,
+                    mix,
+                })
+            };
+            // key 7 is g = 1
+            vec![
+                still,
+                of(7, resonance, mix),
+                of(key, 0.0, mix),
+                of(key, resonance, 1.0),
+                of(7, 0.0, 1.0),
+            ]
+        }
+        Listed::Alone(Stage::Eq { kind, key, q, gain }) => {
+            let of = |key, q, gain| Listed::Alone(Stage::Eq { kind, key, q, gain });
+            vec![
+                still,
+                of(7, q, gain),
+                of(key, 1.0, gain),
+                of(key, q, 0),
+                of(7, 1.0, 0),
+            ]
+        }
+        Listed::Reverb {
+            feedback,
+            damping,
+            width,
+            mix,
+        } => {
+            let of = |feedback, damping, width, mix| Listed::Reverb {
+                feedback,
+                damping,
+                width,
+                mix,
+            };
+            vec![
+                of(0.0, damping, width, mix),
+                of(feedback, 0.0, width, mix),
+                of(feedback, damping, 1.0, mix),
+                of(feedback, damping, width, 1.0),
+                of(0.0, 0.0, 1.0, 1.0),
+            ]
+        }
+        Listed::Delay {
+            frames,
+            feedback,
+            mix,
+            owned,
+        } => {
+            let of = |frames, feedback, mix| Listed::Delay {
+                frames,
+                feedback,
+                mix,
+                owned,
+            };
+            vec![
+                of(1, feedback, mix),
+                of(frames, 0, mix),
+                of(frames, feedback, 1.0),
+                of(1, 0, 1.0),
+            ]
+        }
+        Listed::Words(_) => vec![still],
+    }
+}

@@ -1,0 +1,91 @@
+// The flat face's own answers, 101 and 102, and its words for a stage (docs of the crate `face`), read
+// plainly: what a caller's words mean, or that they mean nothing.
+use crate::table::{Refusal, Stage};
+
+fn single(word: u64) -> Option<f32> {
+    u32::try_from(word).ok().map(f32::from_bits)
+}
+
+fn decibels(word: u64) -> Option<i32> {
+    i32::try_from(word as i64).ok()
+}
+
+fn below(word: u64, cases: u64) -> Option<()> {
+    (word < cases).then_some(())
+}
+
+// Words that a kind does not use are not looked at.
+pub fn stage(words: [u64; 5]) -> Option<Stage> {
+    let [kind, a, b, c, d] = words;
+    Some(match kind {
+        0 => Stage::Volume {
+            volume: decibels(a)?,
+        },
+        1 => Stage::Panning {
+            panning: single(a)?,
+        },
+        2 => {
+            below(a, 2)?;
+            Stage::Distortion {
+                drive: decibels(b)?,
+                mix: single(c)?,
+            }
+        }
+        3 => {
+            below(a, 4)?;
+            Stage::Filter {
+                g: f64::from_bits(b),
+                resonance: f64::from_bits(c),
+                mix: single(d)?,
+            }
+        }
+        4 => {
+            below(a, 3)?;
+            Stage::Eq {
+                g: f64::from_bits(b),
+                gain: decibels(c)?,
+                q: f64::from_bits(d),
+            }
+        }
+        5 => Stage::Reverb {
+            feedback: single(a)?,
+            damping: single(b)?,
+            width: single(c)?,
+            mix: single(d)?,
+        },
+        6 => Stage::Delay {
+            frames: u32::try_from(a).ok()?,
+            feedback: decibels(b)?,
+            mix: single(c)?,
+            owned: d as usize,
+        },
+        _ => return None,
+    })
+}
+
+// 101: the first slice of a wrong length, among those that a function takes.
+pub fn wrong_length(
+    words: usize,
+    positions: usize,
+    floats: usize,
+    progress: usize,
+) -> Option<Refusal> {
+    let wrong = [
+        words % 5 != 0,
+        positions != 384,
+        floats != 320,
+        progress != 16,
+    ];
+    let place = wrong.iter().position(|&is_wrong| is_wrong)?;
+    Some(Refusal { number: 101, place })
+}
+
+// The stages, or 102 and the first place that has no meaning.
+pub fn stages(words: &[u64]) -> Result<Vec<Stage>, Refusal> {
+    let each = words.chunks_exact(5).enumerate();
+    each.map(|(place, words)| {
+        let words: [u64; 5] = words.try_into().expect("five words");
+        stage(words).ok_or(Refusal { number: 102, place })
+    })
+    .collect()
+}
