@@ -1,5 +1,6 @@
 // The echo of crates/block_sizes by kira's own delay and panning, on one block of 4,096 frames: prints
 // the two samples with which crates/block_sizes/stdout begins.
+#[allow(dead_code)]
 mod fed;
 
 use kira::effect::Effect;

@@ -2,9 +2,9 @@
 ghost use mathlib.Core.Path.{_≡_};
 ghost use Prim.Native.Nat.{_+_, _≤_};
 ghost use lib.ListN.{length};
-use chain::memories::Memories;
-use chain::memories::zero;
 use chain::run::run;
+use fresh::memories::Memories;
+use fresh::memories::zero;
 use stage::kind::Stage;
 
 // What one way of running the echo leaves.

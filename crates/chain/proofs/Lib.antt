@@ -1,9 +1,7 @@
 pub mod Stretches
-pub mod Cleared
 pub mod ChainLocal
 pub mod Stays
 pub mod Accepts
-pub mod Starting
 pub mod DemandsMet
 pub mod CutMet
 pub mod OneStep

@@ -3,21 +3,11 @@ use mathlib.Core.Path.{_≡_, sym, _∙_}
 use mathlib.Core.List.{List}
 use denote.Ref.{now}
 use lib.Ieee.{Float}
-use Rattle.float.proofs.Outcome.{Single}
 use Rattle.line.proofs.Outcome.{SingleLent}
 use Rattle.chain.specs.declared.run.Outcome.{Outcome}
 use Rattle.chain.specs.Chain.{state}
-use Rattle.chain.proofs.memories as memories
-use Rattle.chain.proofs.start as start
 use Rattle.chain.proofs.run as run
 use Rattle.chain.proofs.render as render
-
-pub zero-single : Single memories.zero.Reads.Post
-zero-single κs a r r' s s' p q = p ∙ sym q
-
--- what `start` leaves: the store
-pub start-single : SingleLent start.start.Reads.Post (λ κs s. now (s .1 .1 .1 .0))
-start-single κs a r r' s s' p q = ((λ i. record { answer = (p .0 .0 ∙ sym (q .0 .0)) i; memories = (p .0 .1 ∙ sym (q .0 .1)) i }), p .1 ∙ sym (q .1))
 
 -- what `run` and `render` leave: samples and store
 pub record Left : Type 0 where

@@ -3,7 +3,7 @@ use mathlib.Core.Path.{sym}
 use lib.ListN.{length}
 use Rattle.table.proofs.TableHolds.{start-by-the-table, by-the-table}
 use Rattle.chain.specs.Table.{AnswersTabled, RenderUnchanged, StartsTabled}
-use Rattle.chain.proofs.Starting.{started, not-started}
+use Rattle.fresh.proofs.Starting.{started, not-started}
 use Rattle.chain.proofs.Running.{ran, not-ran, not-rendered}
 
 pub answers-tabled : AnswersTabled

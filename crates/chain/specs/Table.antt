@@ -14,7 +14,7 @@ use Rattle.refuse.specs.Refusals.{chainAnswer}
 use Rattle.table.specs.Table.{chainConditions, conditions, ByTheTable}
 use Rattle.chain.specs.Chain.{ordered}
 use Rattle.chain.specs.Run.{answerOn, leftOf, renderedOf}
-use Rattle.chain.specs.Start.{clearedTo, startedOf}
+use Rattle.fresh.specs.Start.{clearedTo, startedOf}
 
 pub record Tabled (rate : ℕ) (l : List Stage) (c : ℕ) (s : State Float Held) (order : List ℕ) : Type 0 where
   pub answer : ByTheTable (conditions rate l c (length (s .held .store)) (s .samples) (s .held .positions) (s .progress) order) (answerOn rate l c s order)

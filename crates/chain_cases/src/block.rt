@@ -6,7 +6,7 @@ use crate::say::delay;
 use crate::say::on_block;
 use crate::say::volume;
 use crate::say::with;
-use chain::memories::Memories;
+use fresh::memories::Memories;
 
 // A delay of 2 frames at list place 1.
 fn on_position(name: &[u8], position: usize) {

@@ -5,9 +5,9 @@ use crate::say::delay;
 use crate::say::on_list;
 use crate::say::volume;
 use crate::say::with;
-use chain::memories::zero;
 use effect::distortion::DistortionKind;
 use filters::eq_filter::EqFilterKind;
+use fresh::memories::zero;
 use stage::kind::Stage;
 
 fn eq_filter(gain: i32) -> Stage {

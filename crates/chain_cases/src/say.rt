@@ -2,9 +2,9 @@
 use answer::Answer;
 use answer::number;
 use answer::place;
-use chain::memories::Memories;
-use chain::memories::zero;
 use chain::run::run;
+use fresh::memories::Memories;
+use fresh::memories::zero;
 use libc::STDOUT_FILENO;
 use stage::kind::Stage;
 

@@ -3,11 +3,11 @@ use crate::say::all;
 use crate::say::delay;
 use crate::say::say;
 use crate::say::say_number;
-use chain::memories::zero;
 use chain::render::render;
 use chain::run::run;
-use chain::start::start;
 use float::bits::to_bits_f32;
+use fresh::memories::zero;
+use fresh::start::start;
 
 fn say_bits(name: &[u8], x: f32) {
     say_number(name, to_bits_f32(x) as u64);

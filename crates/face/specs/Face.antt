@@ -10,9 +10,9 @@ use Rattle.order.specs.Chain.{State}
 use Rattle.answer.specs.declared.Answer as answers
 use Rattle.answer.specs.Answer.{numberOf, placeOf}
 use Rattle.refuse.specs.Refusals.{chainAnswer}
-use Rattle.chain.specs.Memories.{zeroMemories}
+use Rattle.fresh.specs.Memories.{zeroMemories}
 use Rattle.chain.specs.Run.{answerOn, leftOf, renderedOf}
-use Rattle.chain.specs.Start.{startedOf}
+use Rattle.fresh.specs.Start.{startedOf}
 use Rattle.face.specs.declared.Answer.{Answer}
 use Rattle.face.specs.Words.{countOf, stagesOf}
 use Rattle.face.specs.Call.{answer, answerOut, faultOf, read}

@@ -170,7 +170,7 @@ pub extern "C" fn sedhavil_start(
     if fault.number != 0 {
         return fault;
     }
-    let started = chain::start::start(rate, words::stages_of(stages), stages.len() / 5, store);
+    let started = fresh::start::start(rate, words::stages_of(stages), stages.len() / 5, store);
     slices::scatter(started.memories, positions, floats);
     let answer = started.answer;
     answer_out(answer)

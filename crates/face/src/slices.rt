@@ -1,7 +1,7 @@
 // What stages remember goes in and comes back in lent slices; the crate `chain` has it in arrays.
 ghost use mathlib.Core.Path.{_≡_};
 ghost use lib.ListN.{length};
-use chain::memories::Memories;
+use fresh::memories::Memories;
 
 pub(crate) fn copy_numbers(from: &[usize], to: &mut [usize])
     requires { ⌜ length (now to) ≡ length (now from) ⌝ }

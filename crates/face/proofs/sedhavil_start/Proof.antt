@@ -6,8 +6,8 @@ use lib.Ieee.{Float}
 use lib.ListN.{length}
 use Rattle.line.specs.Held.{holds}
 use Rattle.refuse.specs.Refusals.{chainAnswer}
-use Rattle.chain.specs.Memories.{zeroMemories}
-use Rattle.chain.specs.Start.{startedOf}
+use Rattle.fresh.specs.Memories.{zeroMemories}
+use Rattle.fresh.specs.Start.{startedOf}
 use Rattle.face.specs.Words.{countOf}
 use Rattle.face.specs.Call.{answerOut}
 use Rattle.face.specs.Face.{startAnswer, startLeft}

@@ -1,9 +1,9 @@
 use mathlib.Core.Path.{refl}
 use lib.Ieee.{ofBits, round}
 use Rattle.float.specs.Literal.{literal}
-use Rattle.chain.specs.Memories.{zeroMemories}
-use Rattle.chain.proofs.memories.zero.Statement.{statement}
-use Rattle.chain.proofs.memories.zero.Tie as tie
+use Rattle.fresh.specs.Memories.{zeroMemories}
+use Rattle.fresh.proofs.memories.zero.Statement.{statement}
+use Rattle.fresh.proofs.memories.zero.Tie as tie
 
 returns : tie.Need-returns
 unfolding zeroMemories literal round ofBits

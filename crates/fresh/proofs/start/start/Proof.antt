@@ -8,10 +8,10 @@ use lib.ListN.{length, getD}
 use Rattle.stage.proofs.Starts.{starts-at}
 use Rattle.answer.specs.Answer.{acceptedOf}
 use Rattle.refuse.specs.Refusals.{chainAnswer}
-use Rattle.chain.specs.Start.{clearedTo}
-use Rattle.chain.proofs.Starting.{CanStart, can-start, started, not-started}
-use Rattle.chain.proofs.start.start.Statement.{statement}
-use Rattle.chain.proofs.start.start.Tie as tie
+use Rattle.fresh.specs.Start.{clearedTo}
+use Rattle.fresh.proofs.Starting.{CanStart, can-start, started, not-started}
+use Rattle.fresh.proofs.start.start.Statement.{statement}
+use Rattle.fresh.proofs.start.start.Tie as tie
 
 check-chain-requires : tie.Need-check-chain-requires
 check-chain-requires c κs = search needs

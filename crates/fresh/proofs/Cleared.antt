@@ -6,7 +6,7 @@ use native.Mathlib.Omega.{arith}
 use lib.Ieee.{Float, binary32}
 use lib.ListN.{length, set, drop, replicate}
 use Rattle.float.specs.Literal.{literal}
-use Rattle.chain.specs.Start.{clearedTo}
+use Rattle.fresh.specs.Start.{clearedTo}
 
 pub cleared-none : (xs : List Float) → xs ≡ clearedTo 0 xs
 unfolding clearedTo

@@ -4,10 +4,10 @@ use native.Mathlib.Omega.{arith}
 use lib.Ieee.{binary32, ofBits, round}
 use lib.ListN.{length, set, length-set}
 use Rattle.float.specs.Literal.{literal}
-use Rattle.chain.specs.Start.{clearedTo}
-use Rattle.chain.proofs.Cleared.{cleared-none, cleared-more}
-use Rattle.chain.proofs.start.clear.Statement.{statement}
-use Rattle.chain.proofs.start.clear.Tie as tie
+use Rattle.fresh.specs.Start.{clearedTo}
+use Rattle.fresh.proofs.Cleared.{cleared-none, cleared-more}
+use Rattle.fresh.proofs.start.clear.Statement.{statement}
+use Rattle.fresh.proofs.start.clear.Tie as tie
 
 abbrev Inv-loop : tie.InvT-loop
 Inv-loop store₀ n i₀ store i = (i ≤ n) × (n ≤ length store₀) × (store ≡ clearedTo i store₀) × (length store ≡ length store₀)

@@ -11,7 +11,7 @@ use Rattle.stage.specs.Layout.{startOf}
 use Rattle.answer.specs.Answer.{acceptedOf}
 use Rattle.refuse.specs.Refusals.{chainRows, chainAnswer}
 use Rattle.refuse.proofs.Rows.{no-row}
-use Rattle.chain.specs.Start.{clearedTo, startedOf}
+use Rattle.fresh.specs.Start.{clearedTo, startedOf}
 
 pub record CanStart (rate : ℕ) (l : List Stage) (c floats : ℕ) : Type 0 where
   pub few : c ≤ 16

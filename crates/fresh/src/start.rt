@@ -3,9 +3,9 @@
 ghost use mathlib.Core.Path.{_≡_};
 ghost use Prim.Native.Nat.{_≤_};
 ghost use lib.ListN.{length};
-ghost use Rattle.chain.specs.Memories.{zeroMemories};
+ghost use Rattle.fresh.specs.Memories.{zeroMemories};
 ghost use Rattle.refuse.specs.Refusals.{chainAnswer};
-ghost use Rattle.chain.specs.Start.{clearedTo, startedOf};
+ghost use Rattle.fresh.specs.Start.{clearedTo, startedOf};
 use crate::memories;
 use crate::memories::Memories;
 use answer::Answer;

@@ -1,7 +1,7 @@
 // What stages remember beside their lines, of all 16 places: 24 positions and 20 floats a place. They
 // go in and come back by value.
 ghost use mathlib.Core.Path.{_≡_};
-ghost use Rattle.chain.specs.Memories.{zeroMemories};
+ghost use Rattle.fresh.specs.Memories.{zeroMemories};
 
 pub struct Memories {
     pub positions: [usize; 384],
