@@ -64,6 +64,12 @@ isStage w =
     (cond (eqb (w .kind) 6) (isShort (w .a) && (isLevel (w .b) && isShort (w .c)))
     false))))))
 
+-- the kinds that hold lines, and all
+unfoldable pub lineStageOf : Five → Stage
+lineStageOf w =
+    cond (eqb (w .kind) 5) (Reverb (singleOf (w .a)) (singleOf (w .b)) (singleOf (w .c)) (singleOf (w .d)))
+    (Delay (shortOf (w .a)) (levelOf (w .b)) (singleOf (w .c)) (w .d))
+
 unfoldable pub stageOf : Five → Stage
 stageOf w =
     cond (eqb (w .kind) 0) (VolumeControl (levelOf (w .a)))
@@ -71,8 +77,7 @@ stageOf w =
     (cond (eqb (w .kind) 2) (Distortion (clipAt (w .a)) (levelOf (w .b)) (singleOf (w .c)))
     (cond (eqb (w .kind) 3) (Filter (modeAt (w .a)) (doubleOf (w .b)) (doubleOf (w .c)) (singleOf (w .d)))
     (cond (eqb (w .kind) 4) (EqFilter (bandAt (w .a)) (doubleOf (w .b)) (levelOf (w .c)) (doubleOf (w .d)))
-    (cond (eqb (w .kind) 5) (Reverb (singleOf (w .a)) (singleOf (w .b)) (singleOf (w .c)) (singleOf (w .d)))
-    (Delay (shortOf (w .a)) (levelOf (w .b)) (singleOf (w .c)) (w .d)))))))
+    (lineStageOf w)))))
 
 -- ---- a list of words: a stage for each five; past the end there are words 0, which are a volume of 0 dB
 

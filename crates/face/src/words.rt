@@ -3,7 +3,7 @@ ghost use mathlib.Core.Path.{_≡_};
 ghost use mathlib.Core.Bool.{_&&_};
 ghost use Prim.Native.Nat.{_+_, _*_, _<_};
 ghost use Rattle.stage.specs.First.{firstOf};
-ghost use Rattle.face.specs.Words.{isShort, shortOf, isLevel, levelOf, singleOf, clipAt, modeAt, bandAt, isStage, stageOf, wordAt, countOf, fiveAt, unknownAt, stagesOf};
+ghost use Rattle.face.specs.Words.{isShort, shortOf, isLevel, levelOf, singleOf, clipAt, modeAt, bandAt, isStage, lineStageOf, stageOf, wordAt, countOf, fiveAt, unknownAt, stagesOf};
 use effect::distortion::DistortionKind;
 use filters::eq_filter::EqFilterKind;
 use filters::filter::FilterMode;
@@ -134,6 +134,26 @@ fn is_stage(w: Five) -> bool
     false
 }
 
+// The kinds that hold lines: reverb and delay.
+fn line_stage_of(w: Five) -> Stage
+    ensures { λ r. ⌜ r ≡ lineStageOf w ⌝ }
+{
+    if w.kind == 5 {
+        return Stage::Reverb {
+            feedback: single(w.a),
+            damping: single(w.b),
+            stereo_width: single(w.c),
+            mix: single(w.d),
+        };
+    }
+    Stage::Delay {
+        frames: short(w.a),
+        feedback: level(w.b),
+        mix: single(w.c),
+        owned: w.d as usize,
+    }
+}
+
 fn stage_of(w: Five) -> Stage
     ensures { λ r. ⌜ r ≡ stageOf w ⌝ }
 {
@@ -168,20 +188,7 @@ fn stage_of(w: Five) -> Stage
             q: from_bits_f64(w.d),
         };
     }
-    if w.kind == 5 {
-        return Stage::Reverb {
-            feedback: single(w.a),
-            damping: single(w.b),
-            stereo_width: single(w.c),
-            mix: single(w.d),
-        };
-    }
-    Stage::Delay {
-        frames: short(w.a),
-        feedback: level(w.b),
-        mix: single(w.c),
-        owned: w.d as usize,
-    }
+    line_stage_of(w)
 }
 
 fn word_at(words: &[u64], i: usize) -> u64

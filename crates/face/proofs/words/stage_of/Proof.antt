@@ -1,7 +1,7 @@
 -- The tests on the kind pick the case as the definition does, and each number is read as the definition reads it. Assumes nothing.
 use mathlib.Core.Path.{ap}
 use borrow.Author.Tests.{eq-eqb, ne-eqb}
-use Rattle.stage.specs.declared.kind.Stage.the-variants.{VolumeControl, PanningControl, Distortion, Filter, EqFilter, Reverb, Delay}
+use Rattle.stage.specs.declared.kind.Stage.the-variants.{VolumeControl, PanningControl, Distortion, Filter, EqFilter}
 use Rattle.face.specs.Words.{stageOf}
 use Rattle.face.proofs.Levels.{level-kept}
 use borrow.Author.Needs.{needs}
@@ -67,34 +67,12 @@ returns-5 : tie.Need-returns-5
 unfolding stageOf
 returns-5 c = simp (ne-eqb _ _ (c .before .before .before .before .before .before .before .before .before .before .before .before .if1 .left), ne-eqb _ _ (c .before .before .before .before .before .before .before .before .before .before .if2 .left), ne-eqb _ _ (c .before .before .before .before .before .before .before .before .if3 .left), ne-eqb _ _ (c .before .before .before .before .before .before .if4 .left), eq-eqb _ _ (c .before .before .before .before .if5 .taken)) (λ i. EqFilter (c .before .before .before .band-at .ensures i) (c .before .before .from-bits-f643 .ensures i) (level-kept _ _ (c .before .level3 .ensures) i) (c .from-bits-f644 .ensures i))
 
-single-requires-4 : tie.Need-single-requires-4
-single-requires-4 c κs = search needs
-
-single-requires-5 : tie.Need-single-requires-5
-single-requires-5 c κs = search needs
-
-single-requires-6 : tie.Need-single-requires-6
-single-requires-6 c κs = search needs
-
-single-requires-7 : tie.Need-single-requires-7
-single-requires-7 c κs = search needs
+line-stage-of-requires : tie.Need-line-stage-of-requires
+line-stage-of-requires c κs = search needs
 
 returns-6 : tie.Need-returns-6
 unfolding stageOf
-returns-6 c = simp (ne-eqb _ _ (c .before .before .before .before .before .before .before .before .before .before .before .before .before .before .if1 .left), ne-eqb _ _ (c .before .before .before .before .before .before .before .before .before .before .before .before .if2 .left), ne-eqb _ _ (c .before .before .before .before .before .before .before .before .before .before .if3 .left), ne-eqb _ _ (c .before .before .before .before .before .before .before .before .if4 .left), ne-eqb _ _ (c .before .before .before .before .before .before .if5 .left), eq-eqb _ _ (c .before .before .before .before .if6 .taken)) (λ i. Reverb (c .before .before .before .single4 .ensures i) (c .before .before .single5 .ensures i) (c .before .single6 .ensures i) (c .single7 .ensures i))
-
-short-requires : tie.Need-short-requires
-short-requires c κs = search needs
-
-level-requires-4 : tie.Need-level-requires-4
-level-requires-4 c κs = search needs
-
-single-requires-8 : tie.Need-single-requires-8
-single-requires-8 c κs = search needs
-
-returns-7 : tie.Need-returns-7
-unfolding stageOf
-returns-7 c = simp (ne-eqb _ _ (c .before .before .before .before .before .before .before .before .before .before .before .before .before .if1 .left), ne-eqb _ _ (c .before .before .before .before .before .before .before .before .before .before .before .if2 .left), ne-eqb _ _ (c .before .before .before .before .before .before .before .before .before .if3 .left), ne-eqb _ _ (c .before .before .before .before .before .before .before .if4 .left), ne-eqb _ _ (c .before .before .before .before .before .if5 .left), ne-eqb _ _ (c .before .before .before .if6 .left)) (λ i. Delay (c .before .before .short .ensures i) (level-kept _ _ (c .before .level4 .ensures) i) (c .single8 .ensures i) (c .before .before .before .before .before .before .before .before .before .before .before .before .before .before .before .args .w .d))
+returns-6 c = simp (ne-eqb _ _ (c .before .before .before .before .before .before .before .before .before .if1 .left), ne-eqb _ _ (c .before .before .before .before .before .before .before .if2 .left), ne-eqb _ _ (c .before .before .before .before .before .if3 .left), ne-eqb _ _ (c .before .before .before .if4 .left), ne-eqb _ _ (c .before .if5 .left)) (c .line-stage-of .ensures)
 
 pub stage-of-spec : {M : Type 1} → statement M
 stage-of-spec =
@@ -118,12 +96,5 @@ stage-of-spec =
     level-requires-3
     from-bits-f64-requires-4
     returns-5
-    single-requires-4
-    single-requires-5
-    single-requires-6
-    single-requires-7
-    returns-6
-    short-requires
-    level-requires-4
-    single-requires-8
-    returns-7)
+    line-stage-of-requires
+    returns-6)
