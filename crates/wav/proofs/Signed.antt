@@ -1,0 +1,89 @@
+-- 16-bit numbers with a sign, as the machine holds them. Assumes nothing.
+use mathlib.Core.Path.{_≡_, refl, sym, ap, _∙_}
+use mathlib.Core.Bool.{Bool, true, false, cond, true≢false, false≢true}
+use Prim.Native.Nat.{ℕ, zero, suc, _-_, _*_, _<_, _≤_, zero-le, min}
+use native.Mathlib.Nat.{zero-add}
+use native.Mathlib.Omega.{arith}
+use lib.IntN.{ℤ, pos, negsuc, negℤ, _-ℤ_, natAbs}
+use lib.Signed.{mag, leZ, nonNeg}
+use lib.Dec.{T, ltb, lit≤}
+use lib.Ieee.{Float, nan, inf, fin, up, down}
+use lib.Ieee.Nearest.{closest}
+use borrow.Author.Tests.{ltb-true, ltb-false, lt-ltb, le-ltb, le-leb}
+use mir.Syntax.{w16}
+use mir.Val.{toZ, ofZ, SFits}
+use mir.Facts.{toZ-ofZ}
+use Rattle.wav.specs.Bytes.{signedOf, codeOf}
+use Rattle.wav.specs.Sample.{stepsOf, negative, heldOf, outOf}
+
+-- what is written and read back
+pub held : (z : ℤ) → mag z < 32768 → toZ w16 (ofZ w16 z) ≡ z
+held z h = toZ-ofZ (record { sfits = h })
+
+-- -1 - n, and back
+pub less-one : (n : ℕ) → negsuc 0 -ℤ pos n ≡ negsuc n
+less-one zero = refl
+less-one (suc n) = ap (λ (k : ℕ). negsuc (suc k)) (zero-add n)
+
+pub back-one : (n : ℕ) → negsuc 0 -ℤ negsuc n ≡ pos n
+back-one n = rw (le-ltb (suc n) 1 (omega arith)) (ap pos (omega arith))
+
+-- a number with a sign has 16 bits
+pub held-small : (s : Bool) (n : ℕ) → n ≤ 32768 → mag (heldOf s n) < 32768
+unfolding heldOf
+held-small true zero h = omega arith
+held-small true (suc n) h = omega arith
+held-small false n h = omega arith
+
+pub above-is : (n : ℕ) → n < 32768 → pos n ≡ heldOf false n
+unfolding heldOf
+above-is n h = ap pos (omega arith)
+
+pub above-held : (n : ℕ) → 32768 ≤ n → pos 32767 ≡ heldOf false n
+unfolding heldOf
+above-held n h = ap pos (omega arith)
+
+pub below-is : (n : ℕ) → (n ≡ 0 → ⊥) → negsuc (n - 1) ≡ heldOf true n
+unfolding heldOf
+below-is zero h = absurd (h refl)
+below-is (suc n) h = ap negsuc (omega arith)
+
+-- ---- the code of a number
+pub above : (z : ℤ) → mag z < 32768 → leZ (pos 0) z ≡ true → T (nonNeg z) × (natAbs z ≡ codeOf z) × (natAbs z < 65536)
+unfolding codeOf
+above (pos n) h e = (tt, refl, omega arith)
+above (negsuc n) h e = absurd (false≢true e)
+
+pub below : (z : ℤ) → leZ (pos 0) z ≡ false → (negsuc 0 -ℤ z ≡ pos (mag z)) × (65535 - mag z ≡ codeOf z)
+unfolding codeOf
+below (pos n) e = absurd (true≢false (sym (le-leb 0 n zero-le) ∙ e))
+below (negsuc n) e = (back-one n, refl)
+
+pub signed-low : (n : ℕ) → n < 32768 → pos n ≡ signedOf n
+unfolding signedOf
+signed-low n h = rw (lt-ltb n 32768 h)
+
+pub signed-high : (n : ℕ) → 32768 ≤ n → negsuc (65535 - n) ≡ signedOf n
+unfolding signedOf
+signed-high n h = rw (le-ltb n 32768 h)
+
+pub signed-small : (n : ℕ) → n < 65536 → mag (signedOf n) < 32768
+unfolding signedOf
+signed-small n h = go (ltb n 32768) refl
+  where
+    go : (b : Bool) → ltb n 32768 ≡ b → mag (cond b (pos n) (negsuc (65535 - n))) < 32768
+    go true e = ltb-true n 32768 e
+    go false e = let l = ltb-false n 32768 e in omega arith
+
+-- what a sample is written as has 16 bits
+pub out-small : (x : Float) → mag (outOf x) < 32768
+unfolding outOf stepsOf
+out-small x = held-small (negative x) (stepsOf x) (few x)
+  where
+    less : (n : ℕ) → min n 32768 ≤ 32768
+    less n = omega arith
+
+    few : (x : Float) → stepsOf x ≤ 32768
+    few nan = zero-le
+    few (inf s) = lit≤ tt
+    few (fin s m e) = less (closest (m * up e * 32768) (down e))

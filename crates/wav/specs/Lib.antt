@@ -1,0 +1,4 @@
+pub mod Sample
+pub mod Bytes
+pub mod Frames
+pub mod Header

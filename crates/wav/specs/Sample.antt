@@ -1,0 +1,33 @@
+-- A 16-bit sample and the float that stands for it: "A sample is s / 32768; out goes the nearest whole number to 32768 x, ties to even, held to -32768..32767, NaN as 0." Definitions only.
+-- A finite float `fin s m e` is m * 2 ^ e, negative where s is true; 2 ^ e is the fraction up e / down e. A whole number is `pos n`, which is n, or `negsuc n`, which is -(n + 1).
+use Prim.Native.Nat.{ℕ, suc, _*_, min}
+use mathlib.Core.Bool.{Bool, true, false, cond}
+use lib.IntN.{ℤ, pos, negsuc, negℤ}
+use lib.Ieee.{Float, nan, inf, fin, binary32, up, down, round}
+use lib.Ieee.Nearest.{closest}
+
+-- s / 32768, as a float
+unfoldable pub inOf : ℤ → Float
+unfolding round
+inOf (pos n) = round binary32 false n 32768
+inOf (negsuc n) = round binary32 true (suc n) 32768
+
+-- the whole number nearest to 32768 |x|, a tie to the even one, and held to 32768; 0 for NaN
+unfoldable pub stepsOf : Float → ℕ
+stepsOf nan = 0
+stepsOf (inf s) = 32768
+stepsOf (fin s m e) = min (closest (m * up e * 32768) (down e)) 32768
+
+unfoldable pub negative : Float → Bool
+negative nan = false
+negative (inf s) = s
+negative (fin s m e) = s
+
+-- a whole number with a sign; without one it is held to 32767
+unfoldable pub heldOf : Bool → ℕ → ℤ
+heldOf true n = negℤ (pos n)
+heldOf false n = pos (min n 32767)
+
+unfoldable pub outOf : Float → ℤ
+unfolding stepsOf negative heldOf
+outOf x = heldOf (negative x) (stepsOf x)

@@ -1,0 +1,60 @@
+// Blocks of frames, two samples or four bytes each.
+ghost use mathlib.Core.Path.{_≡_};
+ghost use Prim.Native.Nat.{_+_, _*_, _<_, min};
+ghost use lib.ListN.{length, set};
+ghost use Rattle.wav.specs.Frames.{framesOf, sampleAt, lowOf, highOf, samplesIn, bytesOut};
+use crate::bytes::code;
+use crate::bytes::signed;
+use crate::bytes::two_at;
+use crate::sample::sample_in;
+use crate::sample::sample_out;
+
+fn lesser(a: usize, b: usize) -> usize
+    ensures { λ r. ⌜ r ≡ min a b ⌝ }
+{
+    if a < b { a } else { b }
+}
+
+fn sample_at(bytes: &[u8], i: usize) -> f32
+    requires { ⌜ 2 * i + 1 < length (now bytes) ⌝ }
+    ensures { λ r. ⌜ r ≡ sampleAt (now (bytes .entry)) i ⌝ }
+{
+    sample_in(signed(two_at(bytes, 2 * i)))
+}
+
+// Bytes become samples: as many whole frames as both have room for, and the answer is that count.
+pub fn frames_in(bytes: &[u8], samples: &mut [f32]) -> usize
+    ensures { λ r. ⌜ (r ≡ framesOf (now (bytes .entry)) (now (samples .entry))) × (now (samples .exit) ≡ samplesIn (now (bytes .entry)) (now (samples .entry))) ⌝ }
+{
+    let frames = lesser(bytes.len() / 4, samples.len() / 2);
+    let n = 2 * frames;
+    let mut i = 0;
+    while i < n {
+        samples[i] = sample_at(bytes, i);
+        i += 1;
+    }
+    frames
+}
+
+fn put_sample(bytes: &mut [u8], i: usize, x: f32)
+    requires { ⌜ 2 * i + 1 < length (now bytes) ⌝ }
+    ensures { λ _. ⌜ now (bytes .exit) ≡ set (set (now (bytes .entry)) (2 * i) (lowOf x)) (2 * i + 1) (highOf x) ⌝ }
+{
+    let n = code(sample_out(x));
+    bytes[2 * i] = (n % 256) as u8;
+    bytes[2 * i + 1] = (n / 256) as u8;
+}
+
+// Samples become bytes, in the same way.
+pub fn frames_out(samples: &[f32], bytes: &mut [u8]) -> usize
+    ensures { λ r. ⌜ (r ≡ framesOf (now (bytes .entry)) (now (samples .entry))) × (now (bytes .exit) ≡ bytesOut (now (samples .entry)) (now (bytes .entry))) ⌝ }
+{
+    let frames = lesser(bytes.len() / 4, samples.len() / 2);
+    let n = 2 * frames;
+    let mut i = 0;
+    while i < n {
+        put_sample(bytes, i, samples[i]);
+        i += 1;
+    }
+    frames
+}

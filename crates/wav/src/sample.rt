@@ -1,0 +1,79 @@
+// A 16-bit sample and the float that stands for it.
+ghost use mathlib.Core.Path.{_≡_};
+ghost use mathlib.Core.Bool.{Bool, true, false};
+ghost use Prim.Native.Nat.{_*_, _^_, _≤_, _<_};
+ghost use lib.Ieee.{binary32, ofFields};
+ghost use lib.Ieee.Nearest.{closest};
+ghost use lib.IntN.{negsuc};
+ghost use Rattle.wav.specs.Sample.{inOf, outOf, stepsOf, heldOf};
+use float::bits::to_bits_f32;
+
+pub fn sample_in(s: i16) -> f32
+    ensures { λ r. ⌜ r ≡ inOf s ⌝ }
+{
+    (s as f32) / 32768.0
+}
+
+// q / (2 * half) to the nearest whole number, a tie to the even one: half less one is added, and one
+// more where the whole part is odd.
+fn nearest(q: u64, half: u64) -> u64
+    requires { ⌜ q < 2 ^ 24 ⌝ ∗ ⌜ (0 < half) × (half < 2 ^ 24) ⌝ }
+    ensures { λ r. ⌜ r ≡ closest q (2 * half) ⌝ }
+{
+    (q + (half - 1) + q / (2 * half) % 2) / (2 * half)
+}
+
+// Of the float with these fields: its magnitude times 32768, to the nearest whole number, a tie to
+// the even one, held to 32768. From a field of 127 on it is 1 at least; below 111 it is less than half
+// of 1 / 32768.
+fn steps(field: u64, digits: u64) -> u64
+    requires { ⌜ field < 256 ⌝ ∗ ⌜ digits < 2 ^ 23 ⌝ }
+    ensures { λ r. ⌜ ((s : Bool) → r ≡ stepsOf (ofFields binary32 s field digits)) × (r ≤ 32768) ⌝ }
+{
+    if field == 255 {
+        if digits > 0 {
+            return 0;
+        }
+        return 32768;
+    }
+    if field >= 127 {
+        return 32768;
+    }
+    if field < 111 {
+        return 0;
+    }
+    nearest(0x80_0000 + digits, 1 << (134 - field))
+}
+
+// -1 - n.
+pub(crate) fn negative(n: u64) -> i16
+    requires { ⌜ n < 32768 ⌝ }
+    ensures { λ r. ⌜ r ≡ negsuc n ⌝ }
+{
+    -1 - (n as i16)
+}
+
+fn above_zero(n: u64) -> i16
+    ensures { λ r. ⌜ r ≡ heldOf false n ⌝ }
+{
+    if n < 32768 { n as i16 } else { 32767 }
+}
+
+fn below_zero(n: u64) -> i16
+    requires { ⌜ n ≤ 32768 ⌝ }
+    ensures { λ r. ⌜ r ≡ heldOf true n ⌝ }
+{
+    if n == 0 { 0 } else { negative(n - 1) }
+}
+
+pub fn sample_out(x: f32) -> i16
+    ensures { λ r. ⌜ r ≡ outOf x ⌝ }
+{
+    let bits = to_bits_f32(x) as u64;
+    let n = steps(bits % 0x8000_0000 / 0x80_0000, bits % 0x80_0000);
+    if bits < 0x8000_0000 {
+        above_zero(n)
+    } else {
+        below_zero(n)
+    }
+}
