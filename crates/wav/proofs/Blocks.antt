@@ -1,7 +1,7 @@
 -- One sample after the other, into samples or into bytes. Assumes nothing.
 use mathlib.Core.Path.{_≡_, refl, sym, ap, _∙_}
 use mathlib.Core.List.{List, [], _∷_, _++_, append-assoc}
-use Prim.Native.Nat.{ℕ, zero, suc, _+_, _*_, _≤_, _<_}
+use Prim.Native.Nat.{ℕ, zero, suc, _+_, _*_, _<_}
 use native.Mathlib.Numerals.{add-one}
 use native.Mathlib.Omega.{arith}
 use lib.Ieee.{Float, nan}
@@ -10,7 +10,7 @@ use lib.Seq.{drop-cons, set-at}
 use Rattle.wav.specs.Frames.{sampleAt, samplesOf, lowOf, highOf, bytesOf}
 
 module _ (bytes : List ℕ) where
-  samples-length : (n : ℕ) → length (samplesOf bytes n) ≡ n
+  pub samples-length : (n : ℕ) → length (samplesOf bytes n) ≡ n
   unfolding samplesOf
   samples-length zero = refl
   samples-length (suc n) = length-append (samplesOf bytes n) (sampleAt bytes n ∷ []) ∙ ap (λ (k : ℕ). k + 1) (samples-length n) ∙ add-one n

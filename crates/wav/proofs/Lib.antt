@@ -1,5 +1,7 @@
 pub mod Rounded
-pub mod Steps
 pub mod Signed
+pub mod Steps
 pub mod Told
 pub mod Blocks
+pub mod Evidence
+pub mod OneOutcome

@@ -4,21 +4,24 @@ use mathlib.Core.Bool.{Bool, true, false, cond, true≢false, false≢true}
 use Prim.Native.Nat.{ℕ, zero, suc, _-_, _*_, _<_, _≤_, zero-le, min}
 use native.Mathlib.Nat.{zero-add}
 use native.Mathlib.Omega.{arith}
-use lib.IntN.{ℤ, pos, negsuc, negℤ, _-ℤ_, natAbs}
+use borrow.Author.Tests.{ltb-true, ltb-false, lt-ltb, le-ltb, le-leb}
+use lib.IntN.{ℤ, pos, negsuc, _-ℤ_, natAbs}
 use lib.Signed.{mag, leZ, nonNeg}
 use lib.Dec.{T, ltb, lit≤}
 use lib.Ieee.{Float, nan, inf, fin, up, down}
 use lib.Ieee.Nearest.{closest}
-use borrow.Author.Tests.{ltb-true, ltb-false, lt-ltb, le-ltb, le-leb}
 use mir.Syntax.{w16}
-use mir.Val.{toZ, ofZ, SFits}
+use mir.Val.{toZ, ofZ}
 use mir.Facts.{toZ-ofZ}
 use Rattle.wav.specs.Bytes.{signedOf, codeOf}
 use Rattle.wav.specs.Sample.{stepsOf, negative, heldOf, outOf}
 
 -- what is written and read back
+pub came : {z y : ℤ} → z ≡ y → mag y < 32768 → toZ w16 (ofZ w16 z) ≡ y
+came {z} {y} e h = ap (λ (x : ℤ). toZ w16 (ofZ w16 x)) e ∙ toZ-ofZ (record { sfits = h })
+
 pub held : (z : ℤ) → mag z < 32768 → toZ w16 (ofZ w16 z) ≡ z
-held z h = toZ-ofZ (record { sfits = h })
+held z h = came refl h
 
 -- -1 - n, and back
 pub less-one : (n : ℕ) → negsuc 0 -ℤ pos n ≡ negsuc n

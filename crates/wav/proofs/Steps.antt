@@ -1,24 +1,27 @@
 -- A float's magnitude times 32768, to the nearest whole number, by the float's fields. Assumes nothing.
 use mathlib.Core.Path.{_≡_, refl, sym, ap, _∙_, subst}
-use Prim.Native.Nat.{ℕ, zero, suc, _+_, _-_, _*_, _/_, _%_, _^_, _≤_, _<_, min, zero-le}
+use mathlib.Core.Bool.{Bool, true, false, cond}
+use Prim.Native.Nat.{ℕ, zero, suc, _+_, _-_, _*_, _/_, _%_, _^_, _≤_, _<_, min}
 use native.Mathlib.Nat.{le-trans, le-of-eq, lt-of-lt-of-le, lt-of-le-of-lt, le-of-lt, mul-one, mul-comm, mul-assoc, mul-right-comm, mul-le-mul-left, mul-le-mul-right, mul-pos}
 use native.Mathlib.Omega.{arith}
+use borrow.Author.Tests.{eqb-true, eqb-false, ne-eqb}
 use lib.Arith.{lt-of-le-ne}
-use mathlib.Core.Bool.{Bool, true, false, cond}
 use lib.Dec.{T, leb, lit<, lit≤, eqb}
 use lib.IntN.{ℤ, pos, negsuc}
 use lib.Signed.{mag}
 use lib.Pow.{pow-add, pow-pos, pow-mono, shl-lt}
-use borrow.Author.Tests.{eqb-true, eqb-false, ne-eqb}
 use lib.Ieee.{Float, nan, inf, fin, binary32, up, down, fits, ofBits, toBits, ofFields, round, ofInt, div, unlike}
 use lib.Ieee.Bits.{ofBits-toBits}
 use lib.Ieee.Exact.{HasValue, round-exact}
 use lib.Ieee.Fits.{down-pos}
 use lib.Ieee.Nearest.{closest, closest-same, closest-mono}
 use lib.Ieee.Scale.{round-same}
+use mir.Syntax.{w16}
+use mir.Val.{toZ, ofZ}
 use Rattle.float.proofs.Narrowing.{closest-le, one-shl}
 use Rattle.float.proofs.Rounding.{low-field, high-field}
 use Rattle.wav.specs.Sample.{inOf, stepsOf, negative, heldOf, outOf}
+use Rattle.wav.proofs.Signed.{came, held-small}
 
 -- ---- of a value a / c
 module _ (s : Bool) (a c : ℕ) (C : 0 < c) where
@@ -168,14 +171,15 @@ signed-steps s (suc x) t h = go (eqb (suc x) 255) refl
     go true e = subst Signed (sym (eqb-true (suc x) 255 e)) (top (eqb t 0))
     go false e = ap (λ (b : Bool). heldOf b (stepsOf (ofFields binary32 s (suc x) t))) (value-sign s ((2 ^ 23 + t) * 2 ^ x) (2 ^ 149) (pow-pos 149) (ofFields binary32 s (suc x) t) (high-field binary32 s x t (lt-of-le-ne (omega arith) (eqb-false (suc x) 255 e))))
 
-pub bits-out : (x : Float) (n : ℕ) (s : Bool) → T (fits binary32 x) → leb (2 ^ 31) (toBits binary32 x) ≡ s → Steps (toBits binary32 x % 2 ^ 31 / 2 ^ 23) (toBits binary32 x % 2 ^ 23) n → heldOf s n ≡ outOf x
+-- of a float x with the bits b, whose sign is s: the number z that the code gives
+pub bits-out : (x : Float) (b n : ℕ) (z : ℤ) (s : Bool) → T (fits binary32 x) → b ≡ toBits binary32 x → leb (2 ^ 31) b ≡ s → Steps (b % 2 ^ 31 / 2 ^ 23) (b % 2 ^ 23) n → n ≤ 32768 → z ≡ heldOf s n → toZ w16 (ofZ w16 z) ≡ outOf x
 unfolding ofBits
-bits-out x n s t e h =
-    let b = toBits binary32 x in
-    ap (heldOf s) (h s)
+bits-out x b n z s t f e h l g =
+    came g (held-small s n l)
+    ∙ ap (heldOf s) (h s)
     ∙ sym (signed-steps s (b % 2 ^ 31 / 2 ^ 23) (b % 2 ^ 23) (omega arith))
     ∙ ap (λ (v : Bool). outOf (ofFields binary32 v (b % 2 ^ 31 / 2 ^ 23) (b % 2 ^ 23))) (sym e)
-    ∙ ap outOf (ofBits-toBits binary32 x t)
+    ∙ ap outOf (ap (ofBits binary32) f ∙ ofBits-toBits binary32 x t)
 
 -- ---- a sample in: a whole number of at most 16 bits is a float, so only the division could round
 quotient : (s : Bool) (n : ℕ) → n ≤ 32768 → div binary32 (round binary32 s n 1) (fin false 1 (pos 15)) ≡ round binary32 s n 32768

@@ -2,8 +2,8 @@
 use mathlib.Core.Path.{_≡_, refl, sym, _∙_}
 use mathlib.Core.Bool.{Bool, true, false, not}
 use Prim.Native.Nat.{ℕ}
-use lib.Dec.{eqb, ltb, leb}
 use borrow.Author.Tests.{ltb-true, ltb-false, le-leb, lt-leb, eq-eqb, ne-eqb}
+use lib.Dec.{eqb, ltb, leb}
 
 pub told-yes : {r a k : ℕ} → r ≡ a → r ≡ k → eqb a k ≡ true
 told-yes {r} {a} {k} e h = eq-eqb a k (sym e ∙ h)

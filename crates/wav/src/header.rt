@@ -8,8 +8,11 @@ use crate::bytes::two_at;
 
 // Chunk names as numbers, the first letter lowest.
 const RIFF: u32 = 0x4646_4952;
+
 const WAVE: u32 = 0x4556_4157;
+
 const FMT: u32 = 0x2074_6d66;
+
 const DATA: u32 = 0x6174_6164;
 
 pub enum Header {

@@ -1,35 +1,58 @@
+-- `bytes::code` meets its contract, by the laws of proofs/Signed.antt. Assumes nothing.
+use native.Mathlib.Omega.{arith}
 use lib.Signed.{mag}
 use lib.IntN.{pos}
-use native.Mathlib.Omega.{arith}
 use Rattle.wav.proofs.Signed as sg
 use Rattle.wav.proofs.bytes.code.Statement.{statement}
 use Rattle.wav.proofs.bytes.code.Tie as tie
-use Rattle.wav.proofs.bytes.code.Reads as reads
-use Rattle.wav.proofs.bytes.code.Lts as lts
 
--- src/bytes.rt:44:9
 cast-result : tie.Need-cast-result
-cast-result c = let z = c .before .args .s in let m = c .before .fits .s .sfits in let r = sg.held z m in let a = sg.above z m (rw r at (c .if1 .taken)) in rw r (a .0, record { fits = omega (arith, a .2) })
+cast-result c =
+    let z = c .before .args .s in
+    let m = c .before .fits .s .sfits in
+    let r = sg.held z m in
+    let a = sg.above z m (rw r at (c .if1 .taken)) in
+    rw r (a .0, record { fits = omega (arith, a .2) })
 
--- src/bytes.rt:46:19
 sub-result : tie.Need-sub-result
-sub-result c = let z = c .before .args .s in let m = c .before .fits .s .sfits in let r = sg.held z m in let b = sg.below z (rw r at (c .if1 .left)) in rw (r, b .0) (record { sfits = m })
+sub-result c =
+    let z = c .before .args .s in
+    let m = c .before .fits .s .sfits in
+    let r = sg.held z m in
+    let b = sg.below z (rw r at (c .if1 .left)) in
+    rw (r, b .0) (record { sfits = m })
 
--- src/bytes.rt:46:18
 cast-result-2 : tie.Need-cast-result-2
-cast-result-2 c = let z = c .before .args .s in let m = c .before .fits .s .sfits in let r = sg.held z m in let b = sg.below z (rw r at (c .if1 .left)) in rw (r, b .0, sg.held (pos (mag z)) m) (tt, record { fits = omega arith })
+cast-result-2 c =
+    let z = c .before .args .s in
+    let m = c .before .fits .s .sfits in
+    let r = sg.held z m in
+    let b = sg.below z (rw r at (c .if1 .left)) in
+    rw (r, b .0, sg.held (pos (mag z)) m) (tt, record { fits = omega arith })
 
--- src/bytes.rt:46:9
 sub-result-2 : tie.Need-sub-result-2
-sub-result-2 c = let z = c .before .args .s in let m = c .before .fits .s .sfits in let r = sg.held z m in let b = sg.below z (rw r at (c .if1 .left)) in rw (r, b .0, sg.held (pos (mag z)) m) (omega arith)
+sub-result-2 c =
+    let z = c .before .args .s in
+    let m = c .before .fits .s .sfits in
+    let r = sg.held z m in
+    let b = sg.below z (rw r at (c .if1 .left)) in
+    rw (r, b .0, sg.held (pos (mag z)) m) (omega arith)
 
--- src/bytes.rt:40:1
 returns : tie.Need-returns
-returns c = let z = c .before .args .s in let m = c .before .fits .s .sfits in let r = sg.held z m in let a = sg.above z m (rw r at (c .if1 .taken)) in rw r (a .1, a .2)
+returns c =
+    let z = c .before .args .s in
+    let m = c .before .fits .s .sfits in
+    let r = sg.held z m in
+    let a = sg.above z m (rw r at (c .if1 .taken)) in
+    rw r (a .1, a .2)
 
--- src/bytes.rt:40:1
 returns-2 : tie.Need-returns-2
-returns-2 c = let z = c .before .args .s in let m = c .before .fits .s .sfits in let r = sg.held z m in let b = sg.below z (rw r at (c .if1 .left)) in rw (r, b .0, sg.held (pos (mag z)) m) (b .1, omega arith)
+returns-2 c =
+    let z = c .before .args .s in
+    let m = c .before .fits .s .sfits in
+    let r = sg.held z m in
+    let b = sg.below z (rw r at (c .if1 .left)) in
+    rw (r, b .0, sg.held (pos (mag z)) m) (b .1, omega arith)
 
 pub code-spec : {M : Type 1} → statement M
 code-spec =

@@ -1,70 +1,53 @@
+-- `header::format_right` meets its contract: the tests are those of the definition, in its order. Assumes nothing.
+use borrow.Author.Needs.{needs}
 use Rattle.wav.specs.Header.{formatRight}
 use Rattle.wav.proofs.Told.{told-yes, told-no}
-use borrow.Author.Needs.{needs}
 use Rattle.wav.proofs.header.format_right.Statement.{statement}
 use Rattle.wav.proofs.header.format_right.Tie as tie
-use Rattle.wav.proofs.header.format_right.Reads as reads
-use Rattle.wav.proofs.header.format_right.Lts as lts
-use Rattle.wav.proofs.bytes.four_at.Reads as four-at-reads
-use Rattle.wav.proofs.bytes.two_at.Reads as two-at-reads
 
--- src/header.rt:70:8
 two-at-requires : tie.Need-two-at-requires
 two-at-requires c κs = search needs
 
--- src/header.rt:71:9
 returns : tie.Need-returns
 unfolding formatRight
 returns c = rw (told-no (c .before .two-at .ensures .0) (c .if1 .taken))
 
--- src/header.rt:73:8
 two-at-requires-2 : tie.Need-two-at-requires-2
 two-at-requires-2 c κs = search needs
 
--- src/header.rt:74:9
 returns-2 : tie.Need-returns-2
 unfolding formatRight
 returns-2 c = rw (told-yes (c .before .before .before .two-at .ensures .0) (c .before .before .if1 .left), told-no (c .before .two-at2 .ensures .0) (c .if2 .taken))
 
--- src/header.rt:76:8
 two-at-requires-3 : tie.Need-two-at-requires-3
 two-at-requires-3 c κs = search needs
 
--- src/header.rt:77:9
 returns-3 : tie.Need-returns-3
 unfolding formatRight
 returns-3 c = rw (told-yes (c .before .before .before .before .before .two-at .ensures .0) (c .before .before .before .before .if1 .left), told-yes (c .before .before .before .two-at2 .ensures .0) (c .before .before .if2 .left), told-no (c .before .two-at3 .ensures .0) (c .if3 .taken))
 
--- src/header.rt:79:8
 two-at-requires-4 : tie.Need-two-at-requires-4
 two-at-requires-4 c κs = search needs
 
--- src/header.rt:80:9
 returns-4 : tie.Need-returns-4
 unfolding formatRight
 returns-4 c = rw (told-yes (c .before .before .before .before .before .before .before .two-at .ensures .0) (c .before .before .before .before .before .before .if1 .left), told-yes (c .before .before .before .before .before .two-at2 .ensures .0) (c .before .before .before .before .if2 .left), told-yes (c .before .before .before .two-at3 .ensures .0) (c .before .before .if3 .left), told-no (c .before .two-at4 .ensures .0) (c .if4 .taken))
 
--- src/header.rt:82:5
 four-at-requires : tie.Need-four-at-requires
 four-at-requires c κs = search needs
 
--- src/header.rt:82:5
 cast-result : tie.Need-cast-result
 cast-result c = search needs
 
--- src/header.rt:82:39
 four-at-requires-2 : tie.Need-four-at-requires-2
 four-at-requires-2 c κs = search needs
 
--- src/header.rt:82:39
 cast-result-2 : tie.Need-cast-result-2
 cast-result-2 c = search needs
 
--- src/header.rt:82:34
 mul-result : tie.Need-mul-result
 mul-result c = search needs
 
--- src/header.rt:66:1
 returns-5 : tie.Need-returns-5
 unfolding formatRight
 returns-5 c = rw (told-yes (c .before .before .before .before .before .before .before .before .before .two-at .ensures .0) (c .before .before .before .before .before .before .before .before .if1 .left), told-yes (c .before .before .before .before .before .before .before .two-at2 .ensures .0) (c .before .before .before .before .before .before .if2 .left), told-yes (c .before .before .before .before .before .two-at3 .ensures .0) (c .before .before .before .before .if3 .left), told-yes (c .before .before .before .two-at4 .ensures .0) (c .before .before .if4 .left), c .before .four-at .ensures, c .four-at2 .ensures)

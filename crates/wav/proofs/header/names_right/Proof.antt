@@ -1,78 +1,60 @@
+-- `header::names_right` meets its contract: the tests are those of the definition, in its order. Assumes nothing.
+use borrow.Author.Needs.{needs}
 use Rattle.wav.specs.Header.{namesRight}
 use Rattle.wav.proofs.Told.{told-yes, told-no}
-use borrow.Author.Needs.{needs}
 use Rattle.wav.proofs.header.names_right.Statement.{statement}
 use Rattle.wav.proofs.header.names_right.Tie as tie
-use Rattle.wav.proofs.header.names_right.Reads as reads
-use Rattle.wav.proofs.header.names_right.Lts as lts
-use Rattle.wav.proofs.bytes.four_at.Reads as four-at-reads
 
--- src/header.rt:48:8
 four-at-requires : tie.Need-four-at-requires
 four-at-requires c κs = search needs
 
--- src/header.rt:49:9
 returns : tie.Need-returns
 unfolding namesRight
 returns c = rw (told-no (c .before .four-at .ensures) (c .if1 .taken))
 
--- src/header.rt:51:8
 four-at-requires-2 : tie.Need-four-at-requires-2
 four-at-requires-2 c κs = search needs
 
--- src/header.rt:52:9
 returns-2 : tie.Need-returns-2
 unfolding namesRight
 returns-2 c = rw (told-yes (c .before .before .before .four-at .ensures) (c .before .before .if1 .left), told-no (c .before .four-at2 .ensures) (c .if2 .taken))
 
--- src/header.rt:54:8
 four-at-requires-3 : tie.Need-four-at-requires-3
 four-at-requires-3 c κs = search needs
 
--- src/header.rt:55:9
 returns-3 : tie.Need-returns-3
 unfolding namesRight
 returns-3 c = rw (told-yes (c .before .before .before .before .before .four-at .ensures) (c .before .before .before .before .if1 .left), told-yes (c .before .before .before .four-at2 .ensures) (c .before .before .if2 .left), told-no (c .before .four-at3 .ensures) (c .if3 .taken))
 
--- src/header.rt:57:8
 four-at-requires-4 : tie.Need-four-at-requires-4
 four-at-requires-4 c κs = search needs
 
--- src/header.rt:58:9
 returns-4 : tie.Need-returns-4
 unfolding namesRight
 returns-4 c = rw (told-yes (c .before .before .before .before .before .before .before .four-at .ensures) (c .before .before .before .before .before .before .if1 .left), told-yes (c .before .before .before .before .before .four-at2 .ensures) (c .before .before .before .before .if2 .left), told-yes (c .before .before .before .four-at3 .ensures) (c .before .before .if3 .left), told-no (c .before .four-at4 .ensures) (c .if4 .taken))
 
--- src/header.rt:60:8
 four-at-requires-5 : tie.Need-four-at-requires-5
 four-at-requires-5 c κs = search needs
 
--- src/header.rt:61:9
 returns-5 : tie.Need-returns-5
 unfolding namesRight
 returns-5 c = rw (told-yes (c .before .before .before .before .before .before .before .before .before .four-at .ensures) (c .before .before .before .before .before .before .before .before .if1 .left), told-yes (c .before .before .before .before .before .before .before .four-at2 .ensures) (c .before .before .before .before .before .before .if2 .left), told-yes (c .before .before .before .before .before .four-at3 .ensures) (c .before .before .before .before .if3 .left), told-yes (c .before .before .before .four-at4 .ensures) (c .before .before .if4 .left), told-no (c .before .four-at5 .ensures) (c .if5 .taken))
 
--- src/header.rt:63:5
 four-at-requires-6 : tie.Need-four-at-requires-6
 four-at-requires-6 c κs = search needs
 
--- src/header.rt:63:5
 cast-result : tie.Need-cast-result
 cast-result c = search needs
 
--- src/header.rt:63:33
 four-at-requires-7 : tie.Need-four-at-requires-7
 four-at-requires-7 c κs = search needs
 
--- src/header.rt:63:33
 cast-result-2 : tie.Need-cast-result-2
 cast-result-2 c = search needs
 
--- src/header.rt:63:33
 add-result : tie.Need-add-result
 add-result c = search needs
 
--- src/header.rt:44:1
 returns-6 : tie.Need-returns-6
 unfolding namesRight
 returns-6 c = rw (told-yes (c .before .before .before .before .before .before .before .before .before .before .before .four-at .ensures) (c .before .before .before .before .before .before .before .before .before .before .if1 .left), told-yes (c .before .before .before .before .before .before .before .before .before .four-at2 .ensures) (c .before .before .before .before .before .before .before .before .if2 .left), told-yes (c .before .before .before .before .before .before .before .four-at3 .ensures) (c .before .before .before .before .before .before .if3 .left), told-yes (c .before .before .before .before .before .four-at4 .ensures) (c .before .before .before .before .if4 .left), told-yes (c .before .before .before .four-at5 .ensures) (c .before .before .if5 .left), c .before .four-at6 .ensures, c .four-at7 .ensures)

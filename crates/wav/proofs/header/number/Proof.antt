@@ -1,60 +1,47 @@
-use Rattle.wav.specs.Header.{numberOf}
+-- `header::number` meets its contract. Assumes nothing.
 use borrow.Author.Needs.{needs}
+use Rattle.wav.specs.Header.{numberOf}
 use Rattle.wav.proofs.header.number.Statement.{statement}
 use Rattle.wav.proofs.header.number.Tie as tie
-use Rattle.wav.proofs.header.number.Reads as reads
-use Rattle.wav.proofs.header.number.Lts as lts
 
--- src/header.rt:35:46
 enum-told : tie.Need-enum-told
 enum-told c = search needs
 
--- src/header.rt:36:26
 enum-told-2 : tie.Need-enum-told-2
 enum-told-2 c = search needs
 
--- src/header.rt:37:27
 enum-told-3 : tie.Need-enum-told-3
 enum-told-3 c = search needs
 
--- src/header.rt:38:25
 enum-told-4 : tie.Need-enum-told-4
 enum-told-4 c = search needs
 
--- src/header.rt:39:25
 enum-told-5 : tie.Need-enum-told-5
 enum-told-5 c = search needs
 
--- src/header.rt:40:26
 enum-told-6 : tie.Need-enum-told-6
 enum-told-6 c = search needs
 
--- src/header.rt:31:1
 returns : tie.Need-returns
 unfolding numberOf
 returns c = rw (c .enum-told .given .1)
 
--- src/header.rt:31:1
 returns-2 : tie.Need-returns-2
 unfolding numberOf
 returns-2 c = rw (c .enum-told2 .given .1)
 
--- src/header.rt:31:1
 returns-3 : tie.Need-returns-3
 unfolding numberOf
 returns-3 c = rw (c .enum-told3 .given .1)
 
--- src/header.rt:31:1
 returns-4 : tie.Need-returns-4
 unfolding numberOf
 returns-4 c = rw (c .enum-told4 .given .1)
 
--- src/header.rt:31:1
 returns-5 : tie.Need-returns-5
 unfolding numberOf
 returns-5 c = rw (c .enum-told5 .given .1)
 
--- src/header.rt:31:1
 returns-6 : tie.Need-returns-6
 unfolding numberOf
 returns-6 c = rw (c .enum-told6 .given .1)

@@ -1,22 +1,18 @@
-use Rattle.wav.proofs.Told.{not-over}
-use Rattle.wav.specs.Header.{rateRight}
+-- `header::rate_right` meets its contract. Assumes nothing.
 use borrow.Author.Tests.{lt-ltb, le-ltb}
+use Rattle.wav.specs.Header.{rateRight}
+use Rattle.wav.proofs.Told.{not-over}
 use Rattle.wav.proofs.header.rate_right.Statement.{statement}
 use Rattle.wav.proofs.header.rate_right.Tie as tie
-use Rattle.wav.proofs.header.rate_right.Reads as reads
-use Rattle.wav.proofs.header.rate_right.Lts as lts
 
--- src/header.rt:89:9
 returns : tie.Need-returns
 unfolding rateRight
 returns c = rw (lt-ltb (c .before .args .rate) 8000 (c .if1 .taken))
 
--- src/header.rt:92:9
 returns-2 : tie.Need-returns-2
 unfolding rateRight
 returns-2 c = rw (le-ltb (c .before .before .args .rate) 8000 (c .before .if1 .left), lt-ltb 192000 (c .before .before .args .rate) (c .if2 .taken))
 
--- src/header.rt:85:1
 returns-3 : tie.Need-returns-3
 unfolding rateRight
 returns-3 c = rw (le-ltb (c .before .before .args .rate) 8000 (c .before .if1 .left), le-ltb 192000 (c .before .before .args .rate) (c .if2 .left)) (not-over (c .before .before .args .rate) (c .before .before .args .most))

@@ -1,63 +1,47 @@
-use Rattle.wav.specs.Header.{headerOf, firstRow}
+-- `header::read` meets its contract: the tests are the rows of the table, in its order. Assumes nothing.
 use borrow.Author.Tests.{lt-ltb, le-ltb, eq-eqb, ne-eqb}
-use lib.ListN.{length}
-use denote.Ref.{now}
 use borrow.Author.Needs.{needs}
+use denote.Ref.{now}
+use lib.ListN.{length}
+use Rattle.wav.specs.Header.{headerOf, firstRow}
 use Rattle.wav.proofs.header.read.Statement.{statement}
 use Rattle.wav.proofs.header.read.Tie as tie
-use Rattle.wav.proofs.header.read.Reads as reads
-use Rattle.wav.proofs.header.read.Lts as lts
-use Rattle.wav.proofs.bytes.four_at.Reads as four-at-reads
-use Rattle.wav.proofs.header.format_right.Reads as format-right-reads
-use Rattle.wav.proofs.header.names_right.Reads as names-right-reads
-use Rattle.wav.proofs.header.rate_right.Reads as rate-right-reads
 
--- src/header.rt:102:9
 returns : tie.Need-returns
 unfolding headerOf firstRow
 returns c = rw (lt-ltb (length (now (c .before .before .args .bytes))) 44 (c .if1 .taken))
 
--- src/header.rt:104:9
 names-right-requires : tie.Need-names-right-requires
 names-right-requires c κs = search needs
 
--- src/header.rt:105:9
 returns-2 : tie.Need-returns-2
 unfolding headerOf firstRow
 returns-2 c = rw (le-ltb (length (now (c .before .before .before .before .args .bytes))) 44 (c .before .before .if1 .left), ← c .before .names-right .ensures, c .if2 .taken)
 
--- src/header.rt:107:9
 format-right-requires : tie.Need-format-right-requires
 format-right-requires c κs = search needs
 
--- src/header.rt:108:9
 returns-3 : tie.Need-returns-3
 unfolding headerOf firstRow
 returns-3 c = rw (le-ltb (length (now (c .before .before .before .before .before .before .args .bytes))) 44 (c .before .before .before .before .if1 .left), ← c .before .before .before .names-right .ensures, c .before .before .if2 .left, ← c .before .format-right .ensures, c .if3 .taken)
 
--- src/header.rt:110:9
 four-at-requires : tie.Need-four-at-requires
 four-at-requires c κs = search needs
 
--- src/header.rt:111:9
 rate-right-requires : tie.Need-rate-right-requires
 rate-right-requires c κs = search needs
 
--- src/header.rt:112:9
 returns-4 : tie.Need-returns-4
 unfolding headerOf firstRow
 returns-4 c = rw (le-ltb (length (now (c .before .before .before .before .before .before .before .before .before .args .bytes))) 44 (c .before .before .before .before .before .before .before .if1 .left), ← c .before .before .before .before .before .before .names-right .ensures, c .before .before .before .before .before .if2 .left, ← c .before .before .before .before .format-right .ensures, c .before .before .before .if3 .left, ← c .before .before .four-at .ensures, ← c .before .rate-right .ensures, c .if4 .taken)
 
--- src/header.rt:114:9
 four-at-requires-2 : tie.Need-four-at-requires-2
 four-at-requires-2 c κs = search needs
 
--- src/header.rt:116:9
 returns-5 : tie.Need-returns-5
 unfolding headerOf firstRow
 returns-5 c = rw (le-ltb (length (now (c .before .before .before .before .before .before .before .before .before .before .before .args .bytes))) 44 (c .before .before .before .before .before .before .before .before .before .if1 .left), ← c .before .before .before .before .before .before .before .before .names-right .ensures, c .before .before .before .before .before .before .before .if2 .left, ← c .before .before .before .before .before .before .format-right .ensures, c .before .before .before .before .before .if3 .left, ← c .before .before .before .before .four-at .ensures, ← c .before .before .before .rate-right .ensures, c .before .before .if4 .left, ← c .before .four-at2 .ensures, ne-eqb _ _ (c .if5 .taken))
 
--- src/header.rt:98:1
 returns-6 : tie.Need-returns-6
 unfolding headerOf firstRow
 returns-6 c = rw (le-ltb (length (now (c .before .before .before .before .before .before .before .before .before .before .before .args .bytes))) 44 (c .before .before .before .before .before .before .before .before .before .if1 .left), ← c .before .before .before .before .before .before .before .before .names-right .ensures, c .before .before .before .before .before .before .before .if2 .left, ← c .before .before .before .before .before .before .format-right .ensures, c .before .before .before .before .before .if3 .left, ← c .before .before .before .before .four-at .ensures, ← c .before .before .before .rate-right .ensures, c .before .before .if4 .left, ← c .before .four-at2 .ensures, eq-eqb _ _ (c .if5 .left))

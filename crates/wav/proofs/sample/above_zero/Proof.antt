@@ -1,22 +1,18 @@
+-- `sample::above_zero` meets its contract. Assumes nothing.
+use mathlib.Core.Path.{_∙_}
+use borrow.Author.Needs.{needs}
 use mir.Syntax.{w16}
 use mir.Facts.{toZ-pos}
-use mathlib.Core.Path.{_≡_, refl, sym, ap, _∙_, subst}
 use Rattle.wav.proofs.Signed as sg
-use borrow.Author.Needs.{needs}
 use Rattle.wav.proofs.sample.above_zero.Statement.{statement}
 use Rattle.wav.proofs.sample.above_zero.Tie as tie
-use Rattle.wav.proofs.sample.above_zero.Reads as reads
-use Rattle.wav.proofs.sample.above_zero.Lts as lts
 
--- src/sample.rt:51:20
 cast-result : tie.Need-cast-result
 cast-result c = search needs
 
--- src/sample.rt:48:1
 returns : tie.Need-returns
 returns c = toZ-pos w16 (c .if1 .taken) ∙ sg.above-is (c .before .args .n) (c .if1 .taken)
 
--- src/sample.rt:48:1
 returns-2 : tie.Need-returns-2
 returns-2 c = sg.above-held (c .before .args .n) (c .if1 .left)
 

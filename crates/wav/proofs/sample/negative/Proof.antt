@@ -1,22 +1,18 @@
+-- `sample::negative` meets its contract. Assumes nothing.
+use borrow.Author.Needs.{needs}
 use lib.IntN.{negsuc}
 use mir.Syntax.{w16}
 use mir.Facts.{toZ-pos}
 use Rattle.wav.proofs.Signed as sg
-use borrow.Author.Needs.{needs}
 use Rattle.wav.proofs.sample.negative.Statement.{statement}
 use Rattle.wav.proofs.sample.negative.Tie as tie
-use Rattle.wav.proofs.sample.negative.Reads as reads
-use Rattle.wav.proofs.sample.negative.Lts as lts
 
--- src/sample.rt:45:11
 cast-result : tie.Need-cast-result
 cast-result c = search needs
 
--- src/sample.rt:45:5
 sub-result : tie.Need-sub-result
 sub-result c = rw (toZ-pos w16 {n = c .args .n} (c .pre), sg.less-one) (record { sfits = c .pre })
 
--- src/sample.rt:41:1
 returns : tie.Need-returns
 returns c = rw (toZ-pos w16 {n = c .args .n} (c .pre), sg.less-one) (sg.held (negsuc (c .args .n)) (c .pre))
 

@@ -1,53 +1,48 @@
-use Rattle.wav.proofs.Steps.{nan-steps, inf-steps, large-steps, small-steps, middle-steps, doubled}
-use Rattle.float.proofs.Narrowing.{one-shl}
+-- `sample::steps` meets its contract: a law of proofs/Steps.antt for each return. Assumes nothing.
+use mathlib.Core.Path.{sym, ap, _∙_, subst}
+use Prim.Native.Nat.{_+_, _-_, _^_, _<_, zero-le}
+use native.Mathlib.Omega.{arith}
+use borrow.Author.Needs.{needs}
 use lib.Ieee.Nearest.{closest}
 use lib.Pow.{pow-pos, pow-lt}
 use lib.Dec.{lit≤}
-use Prim.Native.Nat.{_+_, _-_, _^_, _<_, zero-le}
-use mathlib.Core.Path.{_≡_, refl, sym, ap, _∙_, subst}
-use native.Mathlib.Omega.{arith}
-use borrow.Author.Needs.{needs}
+use Rattle.float.proofs.Narrowing.{one-shl}
+use Rattle.wav.proofs.Steps.{nan-steps, inf-steps, large-steps, small-steps, middle-steps, doubled}
 use Rattle.wav.proofs.sample.steps.Statement.{statement}
 use Rattle.wav.proofs.sample.steps.Tie as tie
-use Rattle.wav.proofs.sample.steps.Reads as reads
-use Rattle.wav.proofs.sample.steps.Lts as lts
-use Rattle.wav.proofs.sample.nearest.Reads as nearest-reads
 
--- src/sample.rt:35:13
 returns : tie.Need-returns
 returns c = (nan-steps (c .before .before .args .field) (c .before .before .args .digits) (c .before .if1 .taken) (c .if2 .taken), zero-le)
 
--- src/sample.rt:37:9
 returns-2 : tie.Need-returns-2
 returns-2 c = (inf-steps (c .before .before .args .field) (c .before .before .args .digits) (c .before .if1 .taken) (c .if2 .left), lit≤ tt)
 
--- src/sample.rt:40:9
 returns-3 : tie.Need-returns-3
 returns-3 c = (large-steps (c .before .before .args .field) (c .before .before .args .digits) (c .before .if1 .left) (omega arith) (c .if3 .taken), lit≤ tt)
 
--- src/sample.rt:43:9
 returns-4 : tie.Need-returns-4
 returns-4 c = (small-steps (c .before .before .before .args .field) (c .before .before .before .args .digits) (c .if4 .taken) (omega arith), zero-le)
 
--- src/sample.rt:45:13
 add-nearest : tie.Need-add-nearest
 add-nearest c = search needs
 
--- src/sample.rt:45:39
 sub-nearest : tie.Need-sub-nearest
 sub-nearest c = search needs
 
--- src/sample.rt:45:33
 shl-nearest : tie.Need-shl-nearest
 shl-nearest c = search needs
 
--- src/sample.rt:45:5
 nearest-requires : tie.Need-nearest-requires
-nearest-requires c κs = let x = c .before .before .before .args .field in let e = one-shl (134 - x) (omega arith) in (omega arith, (subst (λ z. 0 < z) (sym e) (pow-pos (134 - x)), subst (λ z. z < 2 ^ 24) (sym e) (pow-lt {i = 134 - x} {j = 24} (omega arith))))
+nearest-requires c κs =
+    let x = c .before .before .before .args .field in
+    let e = one-shl (134 - x) (omega arith) in
+    (omega arith, (subst (λ z. 0 < z) (sym e) (pow-pos (134 - x)), subst (λ z. z < 2 ^ 24) (sym e) (pow-lt {i = 134 - x} {j = 24} (omega arith))))
 
--- src/sample.rt:29:1
 returns-5 : tie.Need-returns-5
-returns-5 c = let x = c .before .before .before .before .args .field in let t = c .before .before .before .before .args .digits in middle-steps x t (c .nearest .result) (omega arith) (omega arith) (omega arith) (c .nearest .ensures ∙ ap (closest (2 ^ 23 + t)) (doubled x (omega arith) (omega arith)))
+returns-5 c =
+    let x = c .before .before .before .before .args .field in
+    let t = c .before .before .before .before .args .digits in
+    middle-steps x t (c .nearest .result) (omega arith) (omega arith) (omega arith) (c .nearest .ensures ∙ ap (closest (2 ^ 23 + t)) (doubled x (omega arith) (omega arith)))
 
 pub steps-spec : {M : Type 1} → statement M
 steps-spec =

@@ -1,0 +1,31 @@
+-- Each public function's promise admits one outcome: the answer, and what is left of what was lent. Assumes nothing.
+use mathlib.Core.Path.{_≡_, sym, _∙_}
+use denote.Ref.{now}
+use Rattle.float.proofs.Outcome.{Single}
+use Rattle.wav.proofs.header as header
+use Rattle.wav.proofs.sample as sample
+use Rattle.wav.proofs.frames as frames
+
+-- as `Single`, where something is lent by `&mut`: `left` reads what that holds at exit
+abbrev SingleLent : {L D : Type 0} {A B C : L → Type 0} → ((κs : L) → A κs → B κs → C κs → Type 0) → ((κs : L) → C κs → D) → Type 0
+SingleLent {L} {D} {A} {B} {C} Post left = (κs : L) (a : A κs) (r r' : B κs) (s s' : C κs) → Post κs a r s → Post κs a r' s' → (r ≡ r') × (left κs s ≡ left κs s')
+
+pub number-single : Single header.number.Reads.Post
+number-single κs a r r' s s' p q = p ∙ sym q
+
+pub read-single : Single header.read.Reads.Post
+read-single κs a r r' s s' p q = p ∙ sym q
+
+pub sample-in-single : Single sample.sample_in.Reads.Post
+sample-in-single κs a r r' s s' p q = p ∙ sym q
+
+pub sample-out-single : Single sample.sample_out.Reads.Post
+sample-out-single κs a r r' s s' p q = p ∙ sym q
+
+-- what `frames_in` leaves: the samples
+pub frames-in-single : SingleLent frames.frames_in.Reads.Post (λ κs s. now (s .1 .0))
+frames-in-single κs a r r' s s' p q = (p .0 ∙ sym (q .0), p .1 ∙ sym (q .1))
+
+-- what `frames_out` leaves: the bytes
+pub frames-out-single : SingleLent frames.frames_out.Reads.Post (λ κs s. now (s .1 .0))
+frames-out-single κs a r r' s s' p q = (p .0 ∙ sym (q .0), p .1 ∙ sym (q .1))
