@@ -1,0 +1,14 @@
+// A WAV file through one reverb. At 22,050 Hz, the highest rate that it takes, its lines need 12,719
+// floats.
+use stage::kind::Stage;
+
+fn main() {
+    let mut store = [0.0; 12719];
+    let reverb = Stage::Reverb {
+        feedback: 0.9,
+        damping: 0.1,
+        stereo_width: 1.0,
+        mix: 0.5,
+    };
+    wav_stream::stream([reverb; 16], 1, 22050, &mut store);
+}
