@@ -1,0 +1,167 @@
+// The header. All its fields lie in eleven words of four bytes, of which cases change some.
+ghost use Prim.Native.Nat.{_<_};
+use crate::say;
+use wav::header::read;
+
+// Of document 01's whole case: RIFF, its size, WAVE, fmt, its size, tag and channels, rate, byte
+// rate, block and bits, data, its size.
+const GOOD: [u32; 11] = [
+    0x46464952,
+    44,
+    0x45564157,
+    0x20746d66,
+    16,
+    0x20001,
+    48000,
+    192000,
+    0x100004,
+    0x61746164,
+    8,
+];
+
+// One word wrong: four names, fmt size, RIFF size, tag, channels, bits, block, byte rate.
+const PLACES: [usize; 15] = [0, 2, 3, 9, 4, 4, 1, 1, 5, 5, 8, 8, 8, 7, 7];
+
+const VALUES: [u32; 15] = [
+    0x58464952,
+    0x46564157,
+    0x20746d46,
+    0x61746144,
+    14,
+    18,
+    43,
+    45,
+    0x20003,
+    0x10001,
+    0x80004,
+    0x180004,
+    0x100002,
+    191999,
+    192001,
+];
+
+// Rates with the lowest 32 bits of four times the rate as byte rate.
+const RATES: [u32; 8] = [0, 7999, 8000, 22050, 22051, 192000, 192001, 1073789824];
+
+const BYTE_RATES: [u32; 8] = [0, 31996, 32000, 88200, 88204, 768000, 768004, 192000];
+
+// Data sizes with the lowest 32 bits of the size and 36 as RIFF size.
+const SIZES: [u32; 9] = [
+    0,
+    4,
+    5,
+    6,
+    7,
+    4294967256,
+    4294967259,
+    4294967260,
+    4294967292,
+];
+
+const RIFF_SIZES: [u32; 9] = [36, 40, 41, 42, 43, 4294967292, 4294967295, 0, 32];
+
+fn word(words: [u32; 11], at: usize, value: u32) -> [u32; 11] {
+    let mut changed = words;
+    if at < 11 {
+        changed[at] = value;
+    }
+    changed
+}
+
+fn byte(words: [u32; 11], i: usize) -> u8
+    requires { ⌜ i < 44 ⌝ }
+{
+    let w = words[i / 4];
+    ((w >> ((i % 4 * 8) as u32)) % 256) as u8
+}
+
+fn bytes_of(words: [u32; 11]) -> [u8; 44] {
+    let mut bytes = [0; 44];
+    let mut i = 0;
+    while i < 44 {
+        bytes[i] = byte(words, i);
+        i += 1;
+    }
+    bytes
+}
+
+// What the first n bytes of a header are answered, after the case's name and number.
+fn say_cut(name: &[u8], k: usize, bytes: &[u8], n: usize, most: u32) {
+    if n <= bytes.len() {
+        say::name(name);
+        say::next(k as u64);
+        say::answer(read(&bytes[..n], most));
+    }
+}
+
+fn say_whole(name: &[u8], k: usize, words: [u32; 11], most: u32) {
+    let bytes = bytes_of(words);
+    say_cut(name, k, &bytes, 44, most);
+}
+
+// A header cut at each length, and whole.
+pub(crate) fn cuts() {
+    let bytes = bytes_of(GOOD);
+    let mut n = 0;
+    while n < 45 {
+        say_cut(b"cut", n, &bytes, n, 192000);
+        n += 1;
+    }
+}
+
+// Faults 21 to 24, each by a binary digit of k, from the lowest.
+fn faulty(k: usize) -> [u32; 11] {
+    let mut words = GOOD;
+    if k % 2 == 1 {
+        words[0] = 0x58464952;
+    }
+    if k / 2 % 2 == 1 {
+        words[5] = 0x10001;
+    }
+    if k / 4 % 2 == 1 {
+        words[6] = 7999;
+        words[7] = 31996;
+    }
+    if k / 8 % 2 == 1 {
+        words[1] = 42;
+        words[10] = 6;
+    }
+    words
+}
+
+// All sets of the five faults, the fifth being a header of 43 bytes.
+pub(crate) fn faults() {
+    let mut k = 0;
+    while k < 32 {
+        let bytes = bytes_of(faulty(k));
+        say_cut(b"faults", k, &bytes, if k < 16 { 44 } else { 43 }, 192000);
+        k += 1;
+    }
+}
+
+pub(crate) fn words() {
+    let mut k = 0;
+    while k < 15 {
+        say_whole(b"word", k, word(GOOD, PLACES[k], VALUES[k]), 192000);
+        k += 1;
+    }
+}
+
+// Two words at a time, from two tables.
+fn pairs(name: &[u8], at: usize, values: &[u32], at_2: usize, values_2: &[u32], most: u32) {
+    let mut k = 0;
+    while k < values.len() && k < values_2.len() {
+        let words = word(word(GOOD, at, values[k]), at_2, values_2[k]);
+        say_whole(name, k, words, most);
+        k += 1;
+    }
+}
+
+pub(crate) fn rates() {
+    pairs(b"rate", 6, &RATES, 7, &BYTE_RATES, 192000);
+    pairs(b"rate_to_22050", 6, &RATES, 7, &BYTE_RATES, 22050);
+}
+
+pub(crate) fn sizes() {
+    pairs(b"size", 10, &SIZES, 1, &RIFF_SIZES, 192000);
+}
