@@ -1,5 +1,3 @@
 pub mod Calls
 pub mod Copied
-pub mod Levels
 pub mod OneOutcome
-pub mod Stages

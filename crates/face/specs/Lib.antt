@@ -1,3 +1,2 @@
-pub mod Words
 pub mod Call
 pub mod Face

@@ -9,7 +9,6 @@ ghost use Rattle.face.specs.Call.{answerOut, faultOf};
 ghost use Rattle.face.specs.Face.{runAnswer, runLeft, renderAnswer, renderLeft, startAnswer, startLeft, roomOut, neededAnswer};
 
 mod slices;
-mod words;
 
 // Document 01's number and place; 101 or 102 for a call that cannot be read; 0 for an accepted one.
 #[repr(C)]
