@@ -1,8 +1,7 @@
 -- Each exported function's promise admits one outcome: the answer, and all that it leaves. Assumes nothing.
 use mathlib.Core.Path.{sym, _∙_}
 use denote.Ref.{now}
-use Rattle.float.proofs.Outcome.{Single}
-use Rattle.line.proofs.Outcome.{SingleLent}
+use Rattle.float.proofs.Outcome.{Single, SingleLent}
 use Rattle.line.specs.Held.{holds}
 use Rattle.chain.specs.Chain.{state}
 use Rattle.face.proofs.sedhavil_run as run

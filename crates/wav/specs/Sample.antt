@@ -1,7 +1,7 @@
 -- A 16-bit sample and the float that stands for it: "A sample is s / 32768; out goes the nearest whole number to 32768 x, ties to even, held to -32768..32767, NaN as 0." Definitions only.
 -- A finite float `fin s m e` is m * 2 ^ e, negative where s is true; 2 ^ e is the fraction up e / down e. A whole number is `pos n`, which is n, or `negsuc n`, which is -(n + 1).
 use Prim.Native.Nat.{ℕ, suc, _*_, min}
-use mathlib.Core.Bool.{Bool, true, false, cond}
+use mathlib.Core.Bool.{Bool, true, false}
 use lib.IntN.{ℤ, pos, negsuc, negℤ}
 use lib.Ieee.{Float, nan, inf, fin, binary32, up, down, round}
 use lib.Ieee.Nearest.{closest}
