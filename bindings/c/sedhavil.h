@@ -92,29 +92,23 @@ typedef struct {
  */
 
 /* Runs stages by an order, which need not finish the block. */
-sedhavil_answer sedhavil_run(uint32_t rate, const uint64_t *stages, size_t stages_length,
-                             float *samples, size_t samples_length,
-                             size_t *positions, size_t positions_length,
-                             float *floats, size_t floats_length,
-                             float *store, size_t store_length,
-                             size_t *progress, size_t progress_length,
-                             const size_t *order, size_t order_length);
+sedhavil_answer sedhavil_run(uint32_t rate, const uint64_t *stages, size_t stages_length, float *samples,
+                             size_t samples_length, size_t *positions, size_t positions_length, float *floats,
+                             size_t floats_length, float *store, size_t store_length, size_t *progress,
+                             size_t progress_length, const size_t *order, size_t order_length);
 
 /* Runs every stage to the last frame, from wherever the block stands: what sedhavil_run leaves with any
  * order that finishes it. */
-sedhavil_answer sedhavil_render(uint32_t rate, const uint64_t *stages, size_t stages_length,
-                                float *samples, size_t samples_length,
-                                size_t *positions, size_t positions_length,
-                                float *floats, size_t floats_length,
-                                float *store, size_t store_length,
+sedhavil_answer sedhavil_render(uint32_t rate, const uint64_t *stages, size_t stages_length, float *samples,
+                                size_t samples_length, size_t *positions, size_t positions_length,
+                                float *floats, size_t floats_length, float *store, size_t store_length,
                                 size_t *progress, size_t progress_length);
 
 /* A fresh start: refusals 1 to 5, then the needed floats of the store are cleared. Positions and floats
  * are zero afterwards, refused 1 to 5 or not; 101 and 102 change nothing. */
-sedhavil_answer sedhavil_start(uint32_t rate, const uint64_t *stages, size_t stages_length,
-                               size_t *positions, size_t positions_length,
-                               float *floats, size_t floats_length,
-                               float *store, size_t store_length);
+sedhavil_answer sedhavil_start(uint32_t rate, const uint64_t *stages, size_t stages_length, size_t *positions,
+                               size_t positions_length, float *floats, size_t floats_length, float *store,
+                               size_t store_length);
 
 /* How many floats the store needs: the place of an answer 0. Refusals 101, 102 and 1 to 4. */
 sedhavil_answer sedhavil_floats_needed(uint32_t rate, const uint64_t *stages, size_t stages_length);
@@ -133,26 +127,32 @@ enum {
 };
 
 typedef enum { SEDHAVIL_HARD_CLIP = 0, SEDHAVIL_SOFT_CLIP = 1 } sedhavil_clip;
-typedef enum { SEDHAVIL_LOW_PASS = 0, SEDHAVIL_BAND_PASS = 1, SEDHAVIL_HIGH_PASS = 2, SEDHAVIL_NOTCH = 3 } sedhavil_mode;
+typedef enum {
+    SEDHAVIL_LOW_PASS = 0,
+    SEDHAVIL_BAND_PASS = 1,
+    SEDHAVIL_HIGH_PASS = 2,
+    SEDHAVIL_NOTCH = 3
+} sedhavil_mode;
 typedef enum { SEDHAVIL_BELL = 0, SEDHAVIL_LOW_SHELF = 1, SEDHAVIL_HIGH_SHELF = 2 } sedhavil_band;
 
-static inline uint64_t sedhavil_level(int32_t decibels) {
+static inline uint64_t sedhavil_level_word(int32_t decibels) {
     return (uint64_t)(int64_t)decibels;
 }
 
-static inline uint64_t sedhavil_single(float x) {
+static inline uint64_t sedhavil_single_word(float x) {
     uint32_t bits;
     memcpy(&bits, &x, sizeof bits);
     return bits;
 }
 
-static inline uint64_t sedhavil_double(double x) {
+static inline uint64_t sedhavil_double_word(double x) {
     uint64_t bits;
     memcpy(&bits, &x, sizeof bits);
     return bits;
 }
 
-static inline void sedhavil_words(uint64_t *stage, uint64_t kind, uint64_t a, uint64_t b, uint64_t c, uint64_t d) {
+static inline void sedhavil_stage_words(uint64_t *stage, uint64_t kind, uint64_t a, uint64_t b, uint64_t c,
+                                        uint64_t d) {
     stage[0] = kind;
     stage[1] = a;
     stage[2] = b;
@@ -161,40 +161,50 @@ static inline void sedhavil_words(uint64_t *stage, uint64_t kind, uint64_t a, ui
 }
 
 /* volume: whole dB, at most 24; from -60 down is silence */
-static inline void sedhavil_volume_control(uint64_t *stage, int32_t volume) {
-    sedhavil_words(stage, SEDHAVIL_VOLUME_CONTROL, sedhavil_level(volume), 0, 0, 0);
+static inline void sedhavil_stage_volume_control(uint64_t *stage, int32_t volume) {
+    sedhavil_stage_words(stage, SEDHAVIL_VOLUME_CONTROL, sedhavil_level_word(volume), 0, 0, 0);
 }
 
 /* panning: from -1, left, to 1, right; beyond is clamped */
-static inline void sedhavil_panning_control(uint64_t *stage, float panning) {
-    sedhavil_words(stage, SEDHAVIL_PANNING_CONTROL, sedhavil_single(panning), 0, 0, 0);
+static inline void sedhavil_stage_panning_control(uint64_t *stage, float panning) {
+    sedhavil_stage_words(stage, SEDHAVIL_PANNING_CONTROL, sedhavil_single_word(panning), 0, 0, 0);
 }
 
 /* drive: whole dB, -59 to 24. mix, here and below: from 0, dry, to 1, wet; beyond is clamped */
-static inline void sedhavil_distortion(uint64_t *stage, sedhavil_clip kind, int32_t drive, float mix) {
-    sedhavil_words(stage, SEDHAVIL_DISTORTION, (uint64_t)kind, sedhavil_level(drive), sedhavil_single(mix), 0);
+static inline void sedhavil_stage_distortion(uint64_t *stage, sedhavil_clip kind, int32_t drive, float mix) {
+    sedhavil_stage_words(stage, SEDHAVIL_DISTORTION, (uint64_t)kind, sedhavil_level_word(drive),
+                         sedhavil_single_word(mix), 0);
 }
 
 /* g: tan(pi * f / rate), with f / rate held to 0.0001..0.5 as kira does; 2^-13 to 10^17 is taken.
  * resonance: 0 to 1; beyond is clamped */
-static inline void sedhavil_filter(uint64_t *stage, sedhavil_mode mode, double g, double resonance, float mix) {
-    sedhavil_words(stage, SEDHAVIL_FILTER, (uint64_t)mode, sedhavil_double(g), sedhavil_double(resonance), sedhavil_single(mix));
+static inline void sedhavil_stage_filter(uint64_t *stage, sedhavil_mode mode, double g, double resonance,
+                                         float mix) {
+    sedhavil_stage_words(stage, SEDHAVIL_FILTER, (uint64_t)mode, sedhavil_double_word(g),
+                         sedhavil_double_word(resonance), sedhavil_single_word(mix));
 }
 
 /* g: as of a filter. gain: whole dB, -24 to 24. q: 0 to 1,000; below 0.01 counts as 0.01 */
-static inline void sedhavil_eq_filter(uint64_t *stage, sedhavil_band kind, double g, int32_t gain, double q) {
-    sedhavil_words(stage, SEDHAVIL_EQ_FILTER, (uint64_t)kind, sedhavil_double(g), sedhavil_level(gain), sedhavil_double(q));
+static inline void sedhavil_stage_eq_filter(uint64_t *stage, sedhavil_band kind, double g, int32_t gain,
+                                            double q) {
+    sedhavil_stage_words(stage, SEDHAVIL_EQ_FILTER, (uint64_t)kind, sedhavil_double_word(g),
+                         sedhavil_level_word(gain), sedhavil_double_word(q));
 }
 
 /* feedback, damping, stereo_width: each 0 to 1 */
-static inline void sedhavil_reverb(uint64_t *stage, float feedback, float damping, float stereo_width, float mix) {
-    sedhavil_words(stage, SEDHAVIL_REVERB, sedhavil_single(feedback), sedhavil_single(damping), sedhavil_single(stereo_width), sedhavil_single(mix));
+static inline void sedhavil_stage_reverb(uint64_t *stage, float feedback, float damping, float stereo_width,
+                                         float mix) {
+    sedhavil_stage_words(stage, SEDHAVIL_REVERB, sedhavil_single_word(feedback),
+                         sedhavil_single_word(damping), sedhavil_single_word(stereo_width),
+                         sedhavil_single_word(mix));
 }
 
 /* frames: 1 to 480,000. feedback: whole dB, at most 24. owned: how many of the stages after it, nested
  * ones counted, are its feedback stages */
-static inline void sedhavil_delay(uint64_t *stage, uint32_t frames, int32_t feedback, float mix, size_t owned) {
-    sedhavil_words(stage, SEDHAVIL_DELAY, frames, sedhavil_level(feedback), sedhavil_single(mix), owned);
+static inline void sedhavil_stage_delay(uint64_t *stage, uint32_t frames, int32_t feedback, float mix,
+                                        size_t owned) {
+    sedhavil_stage_words(stage, SEDHAVIL_DELAY, frames, sedhavil_level_word(feedback),
+                         sedhavil_single_word(mix), owned);
 }
 
 #ifdef __cplusplus

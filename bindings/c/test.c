@@ -37,35 +37,42 @@ static void check(int ok, const char *what) {
 static void fresh(size_t n) {
     memset(&c, 0, sizeof c);
     c.rate = 44100;
-    for (size_t i = 0; i < n; i++) sedhavil_volume_control(c.stages + i * SEDHAVIL_WORDS, 0);
+    for (size_t i = 0; i < n; i++)
+        sedhavil_stage_volume_control(c.stages + i * SEDHAVIL_WORDS, 0);
     c.len_stages = n * SEDHAVIL_WORDS;
-    for (size_t i = 0; i < SAMPLES; i++) c.samples[i] = 0.25f;
+    for (size_t i = 0; i < SAMPLES; i++)
+        c.samples[i] = 0.25f;
     c.len_samples = 4;
     c.len_positions = SEDHAVIL_POSITIONS;
     c.len_floats = SEDHAVIL_FLOATS;
-    for (size_t i = 0; i < STORE; i++) c.store[i] = 0.125f;
+    for (size_t i = 0; i < STORE; i++)
+        c.store[i] = 0.125f;
     c.len_store = STORE;
     c.len_progress = SEDHAVIL_PROGRESS;
 }
 
-static uint64_t *stage(size_t i) { return c.stages + i * SEDHAVIL_WORDS; }
+static uint64_t *stage(size_t i) {
+    return c.stages + i * SEDHAVIL_WORDS;
+}
 
 static sedhavil_answer run(void) {
     memcpy(&before, &c, sizeof c);
-    return sedhavil_run(c.rate, c.stages, c.len_stages, c.samples, c.len_samples, c.positions, c.len_positions,
-                        c.floats, c.len_floats, c.store, c.len_store, c.progress, c.len_progress, c.order, c.len_order);
+    return sedhavil_run(c.rate, c.stages, c.len_stages, c.samples, c.len_samples, c.positions,
+                        c.len_positions, c.floats, c.len_floats, c.store, c.len_store, c.progress,
+                        c.len_progress, c.order, c.len_order);
 }
 
 static sedhavil_answer render(void) {
     memcpy(&before, &c, sizeof c);
-    return sedhavil_render(c.rate, c.stages, c.len_stages, c.samples, c.len_samples, c.positions, c.len_positions,
-                           c.floats, c.len_floats, c.store, c.len_store, c.progress, c.len_progress);
+    return sedhavil_render(c.rate, c.stages, c.len_stages, c.samples, c.len_samples, c.positions,
+                           c.len_positions, c.floats, c.len_floats, c.store, c.len_store, c.progress,
+                           c.len_progress);
 }
 
 static sedhavil_answer start(void) {
     memcpy(&before, &c, sizeof c);
-    return sedhavil_start(c.rate, c.stages, c.len_stages, c.positions, c.len_positions, c.floats, c.len_floats,
-                          c.store, c.len_store);
+    return sedhavil_start(c.rate, c.stages, c.len_stages, c.positions, c.len_positions, c.floats,
+                          c.len_floats, c.store, c.len_store);
 }
 
 static sedhavil_answer needed(void) {
@@ -73,14 +80,19 @@ static sedhavil_answer needed(void) {
     return sedhavil_floats_needed(c.rate, c.stages, c.len_stages);
 }
 
-static int is(sedhavil_answer a, uint32_t number, size_t place) { return a.number == number && a.place == place; }
+static int is(sedhavil_answer a, uint32_t number, size_t place) {
+    return a.number == number && a.place == place;
+}
 
-static int unchanged(void) { return memcmp(&c, &before, sizeof c) == 0; }
+static int unchanged(void) {
+    return memcmp(&c, &before, sizeof c) == 0;
+}
 
 /* run and render answer so, and change nothing */
 static void refused(uint32_t number, size_t place, const char *what) {
     check(is(run(), number, place) && unchanged(), what);
-    if (number != SEDHAVIL_REFUSED_ENTRY) check(is(render(), number, place) && unchanged(), what);
+    if (number != SEDHAVIL_REFUSED_ENTRY)
+        check(is(render(), number, place) && unchanged(), what);
 }
 
 /* an empty order is taken, and leaves all as it was */
@@ -126,7 +138,7 @@ static void lengths(void) {
 static void unknown(uint64_t kind, uint64_t a, uint64_t b, uint64_t k, uint64_t d, const char *what) {
     fresh(3);
     c.rate = 0; /* 102 is ranked before 1 */
-    sedhavil_words(stage(1), kind, a, b, k, d);
+    sedhavil_stage_words(stage(1), kind, a, b, k, d);
     refused(102, 1, what);
     check(is(start(), 102, 1) && unchanged(), what);
     check(is(needed(), 102, 1) && unchanged(), what);
@@ -134,12 +146,13 @@ static void unknown(uint64_t kind, uint64_t a, uint64_t b, uint64_t k, uint64_t 
 
 static void known(uint64_t kind, uint64_t a, uint64_t b, uint64_t k, uint64_t d, const char *what) {
     fresh(3);
-    sedhavil_words(stage(1), kind, a, b, k, d);
+    sedhavil_stage_words(stage(1), kind, a, b, k, d);
     taken(what);
 }
 
 static void words(void) {
-    const uint64_t wide = UINT64_C(0x100000000), one = 0x3f800000, g = UINT64_C(0x3ff0000000000000), any = UINT64_MAX;
+    const uint64_t wide = UINT64_C(0x100000000), one = 0x3f800000, g = UINT64_C(0x3ff0000000000000),
+                   any = UINT64_MAX;
     unknown(7, 0, 0, 0, 0, "kind 7");
     unknown(any, 0, 0, 0, 0, "kind 2^64 - 1");
     unknown(0, UINT64_C(0x80000000), 0, 0, 0, "volume 2^31");
@@ -174,25 +187,28 @@ static void words(void) {
 }
 
 /* each kind's words, as the inline functions write them */
-static void written(const uint64_t *w, uint64_t kind, uint64_t a, uint64_t b, uint64_t k, uint64_t d, const char *what) {
+static void written(const uint64_t *w, uint64_t kind, uint64_t a, uint64_t b, uint64_t k, uint64_t d,
+                    const char *what) {
     check(w[0] == kind && w[1] == a && w[2] == b && w[3] == k && w[4] == d, what);
 }
 
 static void builders(void) {
     uint64_t w[SEDHAVIL_WORDS];
-    sedhavil_volume_control(w, -6);
+    sedhavil_stage_volume_control(w, -6);
     written(w, 0, UINT64_MAX - 5, 0, 0, 0, "volume's words");
-    sedhavil_panning_control(w, -1.0f);
+    sedhavil_stage_panning_control(w, -1.0f);
     written(w, 1, 0xbf800000, 0, 0, 0, "panning's words");
-    sedhavil_distortion(w, SEDHAVIL_SOFT_CLIP, 24, 0.5f);
+    sedhavil_stage_distortion(w, SEDHAVIL_SOFT_CLIP, 24, 0.5f);
     written(w, 2, 1, 24, 0x3f000000, 0, "distortion's words");
-    sedhavil_filter(w, SEDHAVIL_NOTCH, 1.0, 0.5, 1.0f);
-    written(w, 3, 3, UINT64_C(0x3ff0000000000000), UINT64_C(0x3fe0000000000000), 0x3f800000, "filter's words");
-    sedhavil_eq_filter(w, SEDHAVIL_HIGH_SHELF, 1.0, -24, 0.5);
-    written(w, 4, 2, UINT64_C(0x3ff0000000000000), UINT64_MAX - 23, UINT64_C(0x3fe0000000000000), "EQ's words");
-    sedhavil_reverb(w, 0.5f, 0.25f, 1.0f, -0.0f);
+    sedhavil_stage_filter(w, SEDHAVIL_NOTCH, 1.0, 0.5, 1.0f);
+    written(w, 3, 3, UINT64_C(0x3ff0000000000000), UINT64_C(0x3fe0000000000000), 0x3f800000,
+            "filter's words");
+    sedhavil_stage_eq_filter(w, SEDHAVIL_HIGH_SHELF, 1.0, -24, 0.5);
+    written(w, 4, 2, UINT64_C(0x3ff0000000000000), UINT64_MAX - 23, UINT64_C(0x3fe0000000000000),
+            "EQ's words");
+    sedhavil_stage_reverb(w, 0.5f, 0.25f, 1.0f, -0.0f);
     written(w, 5, 0x3f000000, 0x3e800000, 0x3f800000, 0x80000000, "reverb's words");
-    sedhavil_delay(w, 480000, -60, 1.0f, 15);
+    sedhavil_stage_delay(w, 480000, -60, 1.0f, 15);
     written(w, 6, 480000, UINT64_MAX - 59, 0x3f800000, 15, "delay's words");
 }
 
@@ -212,30 +228,30 @@ static void eleven(void) {
     fresh(16);
     taken("16 stages");
     fresh(2);
-    sedhavil_delay(stage(1), 1, 0, 1.0f, 1);
+    sedhavil_stage_delay(stage(1), 1, 0, 1.0f, 1);
     refused(3, 1, "a delay that owns a stage past the end");
     check(is(needed(), 3, 1), "floats needed by a delay that owns a stage past the end");
     fresh(2);
-    sedhavil_delay(stage(1), 480001, 0, 1.0f, 0);
+    sedhavil_stage_delay(stage(1), 480001, 0, 1.0f, 0);
     refused(4, 1, "a delay of 480,001 frames");
-    sedhavil_delay(stage(1), 0, 0, 1.0f, 0);
+    sedhavil_stage_delay(stage(1), 0, 0, 1.0f, 0);
     refused(4, 1, "a delay of no frame");
     check(is(needed(), 4, 1), "floats needed by a delay of no frame");
-    sedhavil_delay(stage(1), 480000, 0, 1.0f, 0);
+    sedhavil_stage_delay(stage(1), 480000, 0, 1.0f, 0);
     check(is(needed(), 0, 960000), "a delay of 480,000 frames");
-    sedhavil_eq_filter(stage(1), SEDHAVIL_BELL, 1.0, 25, 1.0);
+    sedhavil_stage_eq_filter(stage(1), SEDHAVIL_BELL, 1.0, 25, 1.0);
     refused(4, 1, "a gain of 25");
-    sedhavil_eq_filter(stage(1), SEDHAVIL_BELL, 1.0, 24, 1.0);
+    sedhavil_stage_eq_filter(stage(1), SEDHAVIL_BELL, 1.0, 24, 1.0);
     taken("a gain of 24");
     fresh(1);
-    sedhavil_reverb(stage(0), 0.9f, 0.1f, 1.0f, 0.5f);
+    sedhavil_stage_reverb(stage(0), 0.9f, 0.1f, 1.0f, 0.5f);
     check(is(needed(), 0, 25450), "one reverb at 44,100 Hz");
     c.len_store = 25449;
     refused(5, 25450, "a store of 25,449 floats");
     c.len_store = 25450;
     taken("a store of 25,450 floats");
     fresh(2);
-    sedhavil_delay(stage(1), 5, 0, 1.0f, 0);
+    sedhavil_stage_delay(stage(1), 5, 0, 1.0f, 0);
     c.positions[24] = 5;
     refused(6, 1, "a position past its line");
     c.positions[24] = 4;
@@ -276,35 +292,37 @@ static void orders(void) {
 }
 
 static void frame_is(float left, float right, const char *what) {
-    check(memcmp(&c.samples[0], &left, sizeof left) == 0 && memcmp(&c.samples[1], &right, sizeof right) == 0, what);
+    check(memcmp(&c.samples[0], &left, sizeof left) == 0 && memcmp(&c.samples[1], &right, sizeof right) == 0,
+          what);
 }
 
 /* P7, P8, P9 and P12 */
 static void values(void) {
     fresh(1);
     c.samples[0] = c.samples[1] = 3;
-    sedhavil_distortion(stage(0), SEDHAVIL_HARD_CLIP, 0, 1.0f);
+    sedhavil_stage_distortion(stage(0), SEDHAVIL_HARD_CLIP, 0, 1.0f);
     check(is(render(), 0, 0), "hard clip");
     frame_is(1, 1, "hard clip of 3");
     fresh(1);
     c.samples[0] = c.samples[1] = 1;
-    sedhavil_distortion(stage(0), SEDHAVIL_SOFT_CLIP, 0, 1.0f);
+    sedhavil_stage_distortion(stage(0), SEDHAVIL_SOFT_CLIP, 0, 1.0f);
     check(is(render(), 0, 0), "soft clip");
     frame_is(0.5f, 0.5f, "soft clip of 1");
     fresh(1);
     c.samples[0] = c.samples[1] = 1;
-    sedhavil_panning_control(stage(0), -1.0f);
+    sedhavil_stage_panning_control(stage(0), -1.0f);
     check(is(render(), 0, 0), "panning");
     frame_is(0x1.6a09e6p+0f, 0, "panning -1");
     fresh(1);
     c.samples[0] = c.samples[1] = 1;
-    sedhavil_panning_control(stage(0), 0x1p-30f);
+    sedhavil_stage_panning_control(stage(0), 0x1p-30f);
     check(is(render(), 0, 0), "panning");
     frame_is(1 - 0x1p-24f, 1 - 0x1p-24f, "panning 2^-30");
     fresh(1);
-    sedhavil_delay(stage(0), 1, 0, 1.0f, 0);
+    sedhavil_stage_delay(stage(0), 1, 0, 1.0f, 0);
     check(is(start(), 0, 0), "start");
-    check(c.store[0] == 0 && c.store[1] == 0 && c.store[2] == 0.125f, "the needed floats are cleared, and no others");
+    check(c.store[0] == 0 && c.store[1] == 0 && c.store[2] == 0.125f,
+          "the needed floats are cleared, and no others");
     const float in[6] = {1, 1, 0, 0, 0, 0}, out[6] = {0, 0, 1, 1, 1, 1};
     memcpy(c.samples, in, sizeof in);
     c.len_samples = 6;
