@@ -16,7 +16,7 @@ use lib.Ieee.{Float, nan, binary32, up, down, nearest, round}
 use lib.Ieee.Fits.{down-pos}
 use lib.Ieee.Exact.{HasValue, round-exact}
 use lib.Ieee.Nearest.{closest, closest-same}
-use Rattle.float.proofs.Compare.{Tells, tells}
+use Rattle.rounding.proofs.Compare.{Tells, tells}
 use Rattle.wav.specs.Sample.{inOf, stepsOf, heldOf, outOf}
 use Rattle.wav.specs.Bytes.{twoAt, signedOf, codeOf}
 use Rattle.wav.specs.Frames.{sampleAt, samplesOf, lowOf, highOf, bytesOf}

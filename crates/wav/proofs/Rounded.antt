@@ -7,7 +7,7 @@ use native.Mathlib.Numerals.{add-one}
 use lib.Arith.{lt-of-le-ne}
 use lib.Ieee.{nearest}
 use lib.Ieee.Nearest.{closest}
-use Rattle.float.proofs.Compare.{Tells, tells}
+use Rattle.rounding.proofs.Compare.{Tells, tells}
 
 -- n is w times d and less than d more
 whole : (n w d p : ℕ) → p ≡ w * d → p ≤ n → n < p + d → n / d ≡ w

@@ -18,8 +18,8 @@ use lib.Ieee.Nearest.{closest, closest-same, closest-mono}
 use lib.Ieee.Scale.{round-same}
 use mir.Syntax.{w16}
 use mir.Val.{toZ, ofZ}
-use Rattle.float.proofs.Narrowing.{closest-le, one-shl}
-use Rattle.float.proofs.Rounding.{low-field, high-field}
+use Rattle.rounding.proofs.Narrowing.{closest-le, one-shl}
+use Rattle.rounding.proofs.Rounding.{low-field, high-field}
 use Rattle.wav.specs.Sample.{inOf, stepsOf, negative, heldOf, outOf}
 use Rattle.wav.proofs.Signed.{came, held-small}
 

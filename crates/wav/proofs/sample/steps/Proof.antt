@@ -6,7 +6,7 @@ use borrow.Author.Needs.{needs}
 use lib.Ieee.Nearest.{closest}
 use lib.Pow.{pow-pos, pow-lt}
 use lib.Dec.{lit≤}
-use Rattle.float.proofs.Narrowing.{one-shl}
+use Rattle.rounding.proofs.Narrowing.{one-shl}
 use Rattle.wav.proofs.Steps.{nan-steps, inf-steps, large-steps, small-steps, middle-steps, doubled}
 use Rattle.wav.proofs.sample.steps.Statement.{statement}
 use Rattle.wav.proofs.sample.steps.Tie as tie
