@@ -13,8 +13,8 @@ use Rattle.order.specs.Chain.{State}
 use Rattle.stage.specs.declared.kind.Stage.{Stage}
 use Rattle.stage.specs.First.{firstOf}
 use Rattle.chain.specs.Chain.{state}
+use Rattle.words.specs.Words.{countOf, unknownAt}
 use Rattle.face.specs.declared.Answer.{Answer}
-use Rattle.face.specs.Words.{countOf, unknownAt}
 use Rattle.face.specs.Call.{answer, faultOf, read}
 
 -- ---- what a test that was passed says of the lengths

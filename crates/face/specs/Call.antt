@@ -7,8 +7,8 @@ use lib.ListN.{length}
 use Rattle.stage.specs.First.{firstOf, some}
 use Rattle.answer.specs.declared.Answer as answers
 use Rattle.answer.specs.Answer.{numberOf, placeOf}
+use Rattle.words.specs.Words.{countOf, unknownAt}
 use Rattle.face.specs.declared.Answer.{Answer}
-use Rattle.face.specs.Words.{countOf, unknownAt}
 
 abbrev pub answer : ℕ → ℕ → Answer
 answer number place = record { number = number; place = place }

@@ -13,8 +13,8 @@ use Rattle.refuse.specs.Refusals.{chainAnswer}
 use Rattle.fresh.specs.Memories.{zeroMemories}
 use Rattle.chain.specs.Run.{answerOn, leftOf, renderedOf}
 use Rattle.fresh.specs.Start.{startedOf}
+use Rattle.words.specs.Words.{countOf, stagesOf}
 use Rattle.face.specs.declared.Answer.{Answer}
-use Rattle.face.specs.Words.{countOf, stagesOf}
 use Rattle.face.specs.Call.{answer, answerOut, faultOf, read}
 
 -- ---- run and render: of the words, and of samples, store, memories and progress as they were

@@ -1,3 +1,3 @@
-pub mod Words
 pub mod Call
 pub mod Face
+pub mod File

@@ -8,8 +8,8 @@ ghost use Rattle.chain.specs.Chain.{state};
 ghost use Rattle.face.specs.Call.{answerOut, faultOf};
 ghost use Rattle.face.specs.Face.{runAnswer, runLeft, renderAnswer, renderLeft, startAnswer, startLeft, roomOut, neededAnswer};
 
+pub mod file;
 mod slices;
-mod words;
 
 // Document 01's number and place; 101 or 102 for a call that cannot be read; 0 for an accepted one.
 #[repr(C)]

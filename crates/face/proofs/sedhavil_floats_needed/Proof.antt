@@ -3,7 +3,7 @@ use mathlib.Core.Path.{_≡_, refl, ap, _∙_}
 use Prim.Native.Nat.{ℕ}
 use denote.Ref.{now}
 use Rattle.refuse.specs.Refusals.{chainAnswer}
-use Rattle.face.specs.Words.{countOf}
+use Rattle.words.specs.Words.{countOf}
 use Rattle.face.specs.Face.{roomOut, neededAnswer}
 use Rattle.face.proofs.Calls.{refused, taken}
 use borrow.Author.Needs.{needs}

@@ -4,7 +4,7 @@ use mathlib.Core.List.{[]}
 use denote.Ref.{now}
 use lib.ListN.{length}
 use Rattle.chain.specs.Run.{answerOn, renderedOf}
-use Rattle.face.specs.Words.{countOf}
+use Rattle.words.specs.Words.{countOf}
 use Rattle.face.specs.Call.{answerOut}
 use Rattle.face.specs.Face.{renderAnswer, renderLeft}
 use Rattle.face.proofs.Calls.{sized, refused, taken, state-with}

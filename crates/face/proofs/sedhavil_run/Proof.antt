@@ -3,7 +3,7 @@ use mathlib.Core.Path.{_≡_, sym, ap, _∙_}
 use denote.Ref.{now}
 use lib.ListN.{length}
 use Rattle.chain.specs.Run.{answerOn, leftOf}
-use Rattle.face.specs.Words.{countOf}
+use Rattle.words.specs.Words.{countOf}
 use Rattle.face.specs.Call.{answerOut}
 use Rattle.face.specs.Face.{runAnswer, runLeft}
 use Rattle.face.proofs.Calls.{sized, refused, taken, state-with}

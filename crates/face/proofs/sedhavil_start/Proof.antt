@@ -8,7 +8,7 @@ use Rattle.line.specs.Held.{holds}
 use Rattle.refuse.specs.Refusals.{chainAnswer}
 use Rattle.fresh.specs.Memories.{zeroMemories}
 use Rattle.fresh.specs.Start.{startedOf}
-use Rattle.face.specs.Words.{countOf}
+use Rattle.words.specs.Words.{countOf}
 use Rattle.face.specs.Call.{answerOut}
 use Rattle.face.specs.Face.{startAnswer, startLeft}
 use Rattle.face.proofs.Calls.{sized, refused, taken, holds-with}

@@ -1,0 +1,3 @@
+pub mod Levels
+pub mod OneOutcome
+pub mod Stages

@@ -1,0 +1,244 @@
+// Stages out of words, five to a stage, for a caller whose language does not know `Stage`. Any words may
+// be passed in: those that are no stage are found by `first_unknown`.
+ghost use mathlib.Core.Path.{_≡_};
+ghost use mathlib.Core.Bool.{_&&_};
+ghost use Prim.Native.Nat.{_+_, _*_, _<_};
+ghost use Rattle.stage.specs.First.{firstOf};
+ghost use Rattle.words.specs.Words.{isShort, shortOf, isLevel, levelOf, singleOf, clipAt, modeAt, bandAt, isStage, lineStageOf, stageOf, wordAt, countOf, fiveAt, unknownAt, stagesOf};
+use effect::distortion::DistortionKind;
+use filters::eq_filter::EqFilterKind;
+use filters::filter::FilterMode;
+use float::bits::from_bits_f32;
+use float::bits::from_bits_f64;
+use stage::kind::Stage;
+
+// A stage's kind, and its numbers.
+struct Five {
+    kind: u64,
+    a: u64,
+    b: u64,
+    c: u64,
+    d: u64,
+}
+
+fn both(a: bool, b: bool) -> bool
+    ensures { λ r. ⌜ r ≡ (a && b) ⌝ }
+{
+    if a { b } else { false }
+}
+
+fn is_short(word: u64) -> bool
+    ensures { λ r. ⌜ r ≡ isShort word ⌝ }
+{
+    word < 0x1_0000_0000
+}
+
+fn short(word: u64) -> u32
+    ensures { λ r. ⌜ r ≡ shortOf word ⌝ }
+{
+    if word < 0x1_0000_0000 {
+        return word as u32;
+    }
+    0
+}
+
+fn is_level(word: u64) -> bool
+    ensures { λ r. ⌜ r ≡ isLevel word ⌝ }
+{
+    if word < 0x8000_0000 {
+        return true;
+    }
+    0xffff_ffff_8000_0000 <= word
+}
+
+fn level(word: u64) -> i32
+    ensures { λ r. ⌜ r ≡ levelOf word ⌝ }
+{
+    if word < 0x8000_0000 {
+        return word as i32;
+    }
+    if 0xffff_ffff_8000_0000 <= word {
+        return -1 - (0xffff_ffff_ffff_ffff - word) as i32;
+    }
+    0
+}
+
+fn single(word: u64) -> f32
+    ensures { λ r. ⌜ r ≡ singleOf word ⌝ }
+{
+    from_bits_f32(short(word))
+}
+
+fn clip_at(code: u64) -> DistortionKind
+    ensures { λ r. ⌜ r ≡ clipAt code ⌝ }
+{
+    if code == 0 {
+        return DistortionKind::HardClip;
+    }
+    DistortionKind::SoftClip
+}
+
+fn mode_at(code: u64) -> FilterMode
+    ensures { λ r. ⌜ r ≡ modeAt code ⌝ }
+{
+    if code == 0 {
+        return FilterMode::LowPass;
+    }
+    if code == 1 {
+        return FilterMode::BandPass;
+    }
+    if code == 2 {
+        return FilterMode::HighPass;
+    }
+    FilterMode::Notch
+}
+
+fn band_at(code: u64) -> EqFilterKind
+    ensures { λ r. ⌜ r ≡ bandAt code ⌝ }
+{
+    if code == 0 {
+        return EqFilterKind::Bell;
+    }
+    if code == 1 {
+        return EqFilterKind::LowShelf;
+    }
+    EqFilterKind::HighShelf
+}
+
+fn is_stage(w: Five) -> bool
+    ensures { λ r. ⌜ r ≡ isStage w ⌝ }
+{
+    if w.kind == 0 {
+        return is_level(w.a);
+    }
+    if w.kind == 1 {
+        return is_short(w.a);
+    }
+    if w.kind == 2 {
+        return both(w.a < 2, both(is_level(w.b), is_short(w.c)));
+    }
+    if w.kind == 3 {
+        return both(w.a < 4, is_short(w.d));
+    }
+    if w.kind == 4 {
+        return both(w.a < 3, is_level(w.c));
+    }
+    if w.kind == 5 {
+        return both(
+            both(is_short(w.a), is_short(w.b)),
+            both(is_short(w.c), is_short(w.d)),
+        );
+    }
+    if w.kind == 6 {
+        return both(is_short(w.a), both(is_level(w.b), is_short(w.c)));
+    }
+    false
+}
+
+// The kinds that hold lines: reverb and delay.
+fn line_stage_of(w: Five) -> Stage
+    ensures { λ r. ⌜ r ≡ lineStageOf w ⌝ }
+{
+    if w.kind == 5 {
+        return Stage::Reverb {
+            feedback: single(w.a),
+            damping: single(w.b),
+            stereo_width: single(w.c),
+            mix: single(w.d),
+        };
+    }
+    Stage::Delay {
+        frames: short(w.a),
+        feedback: level(w.b),
+        mix: single(w.c),
+        owned: w.d as usize,
+    }
+}
+
+fn stage_of(w: Five) -> Stage
+    ensures { λ r. ⌜ r ≡ stageOf w ⌝ }
+{
+    if w.kind == 0 {
+        return Stage::VolumeControl { volume: level(w.a) };
+    }
+    if w.kind == 1 {
+        return Stage::PanningControl {
+            panning: single(w.a),
+        };
+    }
+    if w.kind == 2 {
+        return Stage::Distortion {
+            kind: clip_at(w.a),
+            drive: level(w.b),
+            mix: single(w.c),
+        };
+    }
+    if w.kind == 3 {
+        return Stage::Filter {
+            mode: mode_at(w.a),
+            g: from_bits_f64(w.b),
+            resonance: from_bits_f64(w.c),
+            mix: single(w.d),
+        };
+    }
+    if w.kind == 4 {
+        return Stage::EqFilter {
+            kind: band_at(w.a),
+            g: from_bits_f64(w.b),
+            gain: level(w.c),
+            q: from_bits_f64(w.d),
+        };
+    }
+    line_stage_of(w)
+}
+
+fn word_at(words: &[u64], i: usize) -> u64
+    ensures { λ r. ⌜ r ≡ wordAt (now (words .entry)) i ⌝ }
+{
+    if i < words.len() {
+        return words[i];
+    }
+    0
+}
+
+fn five_at(words: &[u64], i: usize) -> Five
+    requires { ⌜ 5 * i + 4 < 0x1_0000_0000_0000_0000 ⌝ }
+    ensures { λ r. ⌜ r ≡ fiveAt (now (words .entry)) i ⌝ }
+{
+    let at = 5 * i;
+    Five {
+        kind: word_at(words, at),
+        a: word_at(words, at + 1),
+        b: word_at(words, at + 2),
+        c: word_at(words, at + 3),
+        d: word_at(words, at + 4),
+    }
+}
+
+pub fn first_unknown(words: &[u64]) -> usize
+    ensures { λ r. ⌜ r ≡ firstOf (unknownAt (now (words .entry))) (countOf (now (words .entry))) ⌝ }
+{
+    let count = words.len() / 5;
+    let mut i = 0;
+    while i < count {
+        if !is_stage(five_at(words, i)) {
+            return i;
+        }
+        i += 1;
+    }
+    i
+}
+
+pub fn stages_of(words: &[u64]) -> [Stage; 16]
+    ensures { λ r. ⌜ r ≡ stagesOf (now (words .entry)) ⌝ }
+{
+    let none = Stage::VolumeControl { volume: 0 };
+    let mut stages = [none; 16];
+    let mut i = 0;
+    while i < 16 {
+        let stage = stage_of(five_at(words, i));
+        stages[i] = stage;
+        i += 1;
+    }
+    stages
+}
