@@ -4,7 +4,8 @@
  *     cc host.c target/staticlib/libface.a
  *
  * A chain of at most 16 stages works on a block of at most 4,096 stereo frames. Nothing is kept
- * between calls but what the caller lends and gets back: samples, memories, store and progress.
+ * between calls but what the caller lends and gets back: samples, memories, store and progress. Three
+ * functions, with answers of their own, turn the bytes of a WAV file into samples and back (see there).
  *
  * Every call is answered. A number other than 0 is a refusal, and then nothing that was lent has
  * changed (sedhavil_start alone leaves memories at zero, see there).
@@ -112,6 +113,42 @@ sedhavil_answer sedhavil_start(uint32_t rate, const uint64_t *stages, size_t sta
 
 /* How many floats the store needs: the place of an answer 0. Refusals 101, 102 and 1 to 4. */
 sedhavil_answer sedhavil_floats_needed(uint32_t rate, const uint64_t *stages, size_t stages_length);
+
+/* ---- WAV files of 16-bit stereo samples: two bytes a sample, the low one first, and four a frame.
+ *
+ *   number  the header is refused because
+ *   21      a chunk name is wrong, fmt's size is not 16, or RIFF's is not that of the data + 36
+ *   22      it is not tag 1, two channels, 16 bits, blocks of 4 and a byte rate of four times the rate
+ *   23      the rate is below 8,000, above 192,000 or above the one asked for
+ *   24      the size of the data is not a multiple of 4
+ *   25      there are fewer than 44 bytes
+ *
+ * The first that applies is given: 25, then 21 to 24. */
+
+enum {
+    SEDHAVIL_WAV_HEADER = 44, /* the bytes of a header; the data follow */
+    SEDHAVIL_WAV_READ = 0,
+    SEDHAVIL_WAV_REFUSED_NAMES = 21,
+    SEDHAVIL_WAV_REFUSED_FORMAT = 22,
+    SEDHAVIL_WAV_REFUSED_RATE = 23,
+    SEDHAVIL_WAV_REFUSED_SIZE = 24,
+    SEDHAVIL_WAV_REFUSED_SHORT = 25
+};
+
+typedef struct {
+    uint32_t number;
+    uint32_t rate; /* this and the size are 0 where the number is not */
+    uint32_t size; /* the bytes of data to come */
+} sedhavil_header;
+
+/* What the first 44 bytes say to a program that takes rates up to `most`. */
+sedhavil_header sedhavil_wav_header(const uint8_t *bytes, size_t bytes_length, uint32_t most);
+
+/* Bytes become samples, each s / 32768, and samples become bytes, each the nearest whole number to
+ * 32768 x, ties to even, held to -32768..32767, NaN as 0. As many whole frames go over as both sides have
+ * room for, which is the answer; what lies past them is as it was. */
+size_t sedhavil_frames_in(const uint8_t *bytes, size_t bytes_length, float *samples, size_t samples_length);
+size_t sedhavil_frames_out(const float *samples, size_t samples_length, uint8_t *bytes, size_t bytes_length);
 
 /* ---- A stage's five words: the kind, then its numbers; words that a kind does not use may hold anything.
  * A level in whole dB is its two's complement, an f32 its bits in the low half, an f64 its bits. */

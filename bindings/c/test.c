@@ -1,5 +1,5 @@
-/* The face from C. What is expected was written by hand from document 01 (its examples P7 to P9, P12, P13
- * and its numbers on each side of an edge) and from the rules in sedhavil.h. Every refusal is also held to
+/* The face from C. What is expected was written by hand from document 01 (its examples P7 to P9, P12, P13,
+ * its WAV case and its numbers on each side of an edge) and from the rules in sedhavil.h. Every refusal is also held to
  * "nothing has changed". `bindings/c/run` builds and runs this. */
 #include "sedhavil.h"
 
@@ -342,6 +342,59 @@ static void starts(void) {
     check(unchanged(), "leaves memories at zero, and the rest");
 }
 
+/* document 01's whole case, of 52 bytes */
+static const uint8_t file[52] = {
+    0x52, 0x49, 0x46, 0x46, 0x2C, 0x00, 0x00, 0x00, 0x57, 0x41, 0x56, 0x45, 0x66, 0x6D, 0x74, 0x20, 0x10, 0x00,
+    0x00, 0x00, 0x01, 0x00, 0x02, 0x00, 0x80, 0xBB, 0x00, 0x00, 0x00, 0xEE, 0x02, 0x00, 0x04, 0x00, 0x10, 0x00,
+    0x64, 0x61, 0x74, 0x61, 0x08, 0x00, 0x00, 0x00, 0x00, 0x40, 0x00, 0xC0, 0xFF, 0x7F, 0x00, 0x80};
+
+/* its header, with one byte changed, is answered so */
+static void header_is(size_t at, uint8_t byte, size_t length, uint32_t most, uint32_t number, const char *what) {
+    uint8_t bytes[52];
+    memcpy(bytes, file, sizeof bytes);
+    bytes[at] = byte;
+    sedhavil_header h = sedhavil_wav_header(bytes, length, most);
+    check(h.number == number && h.rate == (number ? 0 : 48000) && h.size == (number ? 0 : 8), what);
+}
+
+static void headers(void) {
+    header_is(0, 0x52, 52, 192000, 0, "the whole case's header");
+    header_is(0, 0x52, 44, 48000, 0, "44 bytes, and its own rate as the most");
+    header_is(0, 0x52, 44, 47999, 23, "47,999 as the most");
+    header_is(0, 0x53, 43, 0, 25, "43 bytes, before all else");
+    header_is(0, 0x53, 44, 0, 21, "SIFF, before the rate");
+    header_is(4, 0x2B, 44, 192000, 21, "RIFF size not data size + 36");
+    header_is(16, 0x12, 44, 192000, 21, "fmt size 18");
+    header_is(20, 0x03, 44, 0, 22, "tag 3, before the rate");
+    header_is(22, 0x01, 44, 192000, 22, "one channel");
+    header_is(28, 0x01, 44, 192000, 22, "byte rate not 4R");
+    check(sedhavil_wav_header(file, 0, 192000).number == 25, "no bytes");
+    uint8_t odd[44];
+    memcpy(odd, file, sizeof odd);
+    odd[40] = 0x0A;
+    odd[4] = 0x2E;
+    check(sedhavil_wav_header(odd, 44, 47999).number == 23, "the rate before the size");
+    check(sedhavil_wav_header(odd, 44, 48000).number == 24, "10 bytes of data");
+}
+
+static void frames(void) {
+    const float in[5] = {0.5f, -0.5f, 32767 / 32768.0f, -1, 7};
+    float samples[5] = {7, 7, 7, 7, 7};
+    check(sedhavil_frames_in(file + 44, 8, samples, 5) == 2 && memcmp(samples, in, sizeof in) == 0, "s / 32768");
+    uint8_t bytes[11];
+    memset(bytes, 0x55, sizeof bytes);
+    check(sedhavil_frames_out(samples, 5, bytes, 11) == 2 && memcmp(bytes, file + 44, 8) == 0, "and back");
+    check(bytes[8] == 0x55 && bytes[9] == 0x55 && bytes[10] == 0x55, "what lies past the frames");
+    check(sedhavil_frames_in(file + 44, 7, samples, 5) == 1, "7 bytes are one frame");
+    check(sedhavil_frames_out(samples, 4, bytes, 7) == 1, "and so many are written");
+    check(sedhavil_frames_in(file + 44, 8, samples, 1) == 0, "one sample is no frame");
+    /* 32768 x is 0.5, 1.5, 2.5, -0.5, -1.5, over either end, infinite and NaN */
+    const float x[10] = {0x1p-16f, 0x1.8p-15f, 0x1.4p-14f, -0x1p-16f, -0x1.8p-15f, 1, -0x1.00002p+0f, INFINITY, -INFINITY, NAN};
+    const uint8_t out[20] = {0, 0, 2, 0, 2, 0, 0, 0, 0xFE, 0xFF, 0xFF, 0x7F, 0x00, 0x80, 0xFF, 0x7F, 0x00, 0x80, 0, 0};
+    uint8_t got[20];
+    check(sedhavil_frames_out(x, 10, got, 20) == 5 && memcmp(got, out, sizeof out) == 0, "ties to even, held to 16 bits");
+}
+
 int main(void) {
     lengths();
     words();
@@ -350,6 +403,8 @@ int main(void) {
     orders();
     values();
     starts();
+    headers();
+    frames();
     printf("C: %d checks, %d failed\n", checks, failures);
     return failures != 0;
 }
