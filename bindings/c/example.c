@@ -20,36 +20,41 @@ static void fail(const char *what, sedhavil_answer answer) {
 }
 
 static void start(void) {
-    sedhavil_answer answer = sedhavil_start(RATE, stages, STAGES * SEDHAVIL_WORDS, positions, SEDHAVIL_POSITIONS,
-                                            floats, SEDHAVIL_FLOATS, store, needed);
-    if (answer.number != SEDHAVIL_ACCEPTED) fail("start", answer);
+    sedhavil_answer answer = sedhavil_start(RATE, stages, STAGES * SEDHAVIL_WORDS, positions,
+                                            SEDHAVIL_POSITIONS, floats, SEDHAVIL_FLOATS, store, needed);
+    if (answer.number != SEDHAVIL_ACCEPTED)
+        fail("start", answer);
 }
 
 /* Renders so many frames, as a block of their own. */
 static void render(float *samples, size_t frames) {
     size_t progress[SEDHAVIL_PROGRESS] = {0};
-    sedhavil_answer answer =
-        sedhavil_render(RATE, stages, STAGES * SEDHAVIL_WORDS, samples, 2 * frames, positions, SEDHAVIL_POSITIONS,
-                        floats, SEDHAVIL_FLOATS, store, needed, progress, SEDHAVIL_PROGRESS);
-    if (answer.number != SEDHAVIL_ACCEPTED) fail("render", answer);
+    sedhavil_answer answer = sedhavil_render(RATE, stages, STAGES * SEDHAVIL_WORDS, samples, 2 * frames,
+                                             positions, SEDHAVIL_POSITIONS, floats, SEDHAVIL_FLOATS, store,
+                                             needed, progress, SEDHAVIL_PROGRESS);
+    if (answer.number != SEDHAVIL_ACCEPTED)
+        fail("render", answer);
 }
 
 static void print_left(const char *name, const float *samples) {
     printf("%s:", name);
-    for (size_t i = 0; i < FRAMES; i++) printf(" %g", samples[2 * i]);
+    for (size_t i = 0; i < FRAMES; i++)
+        printf(" %g", samples[2 * i]);
     printf("\n");
 }
 
 int main(void) {
-    sedhavil_delay(stages, 1, 0, 1.0f, 0);
-    sedhavil_volume_control(stages + SEDHAVIL_WORDS, 0);
+    sedhavil_stage_delay(stages, 1, 0, 1.0f, 0);
+    sedhavil_stage_volume_control(stages + SEDHAVIL_WORDS, 0);
 
     sedhavil_answer room = sedhavil_floats_needed(RATE, stages, STAGES * SEDHAVIL_WORDS);
-    if (room.number != SEDHAVIL_ACCEPTED) fail("floats needed", room);
+    if (room.number != SEDHAVIL_ACCEPTED)
+        fail("floats needed", room);
     needed = room.place;
     printf("floats needed: %zu\n", needed);
     store = calloc(needed, sizeof *store);
-    if (store == NULL) return 1;
+    if (store == NULL)
+        return 1;
 
     float whole[2 * FRAMES] = {1, 1, 0, 0, 0, 0};
     start();
@@ -66,9 +71,9 @@ int main(void) {
     size_t progress[SEDHAVIL_PROGRESS] = {0};
     size_t order[2] = {1, 0};
     start();
-    sedhavil_answer answer = sedhavil_run(RATE, stages, STAGES * SEDHAVIL_WORDS, again, 2 * FRAMES,
-                                          positions, SEDHAVIL_POSITIONS, floats, SEDHAVIL_FLOATS, store, needed,
-                                          progress, SEDHAVIL_PROGRESS, order, 2);
+    sedhavil_answer answer =
+        sedhavil_run(RATE, stages, STAGES * SEDHAVIL_WORDS, again, 2 * FRAMES, positions, SEDHAVIL_POSITIONS,
+                     floats, SEDHAVIL_FLOATS, store, needed, progress, SEDHAVIL_PROGRESS, order, 2);
     printf("order 1 0: refusal %u at place %zu\n", answer.number, answer.place);
     free(store);
     return 0;

@@ -4,7 +4,8 @@
  *     cc host.c target/staticlib/libface.a
  *
  * A chain of at most 16 stages works on a block of at most 4,096 stereo frames. Nothing is kept
- * between calls but what the caller lends and gets back: samples, memories, store and progress.
+ * between calls but what the caller lends and gets back: samples, memories, store and progress. Three
+ * functions, with answers of their own, turn the bytes of a WAV file into samples and back (see there).
  *
  * Every call is answered. A number other than 0 is a refusal, and then nothing that was lent has
  * changed (sedhavil_start alone leaves memories at zero, see there).
@@ -92,32 +93,62 @@ typedef struct {
  */
 
 /* Runs stages by an order, which need not finish the block. */
-sedhavil_answer sedhavil_run(uint32_t rate, const uint64_t *stages, size_t stages_length,
-                             float *samples, size_t samples_length,
-                             size_t *positions, size_t positions_length,
-                             float *floats, size_t floats_length,
-                             float *store, size_t store_length,
-                             size_t *progress, size_t progress_length,
-                             const size_t *order, size_t order_length);
+sedhavil_answer sedhavil_run(uint32_t rate, const uint64_t *stages, size_t stages_length, float *samples,
+                             size_t samples_length, size_t *positions, size_t positions_length, float *floats,
+                             size_t floats_length, float *store, size_t store_length, size_t *progress,
+                             size_t progress_length, const size_t *order, size_t order_length);
 
 /* Runs every stage to the last frame, from wherever the block stands: what sedhavil_run leaves with any
  * order that finishes it. */
-sedhavil_answer sedhavil_render(uint32_t rate, const uint64_t *stages, size_t stages_length,
-                                float *samples, size_t samples_length,
-                                size_t *positions, size_t positions_length,
-                                float *floats, size_t floats_length,
-                                float *store, size_t store_length,
+sedhavil_answer sedhavil_render(uint32_t rate, const uint64_t *stages, size_t stages_length, float *samples,
+                                size_t samples_length, size_t *positions, size_t positions_length,
+                                float *floats, size_t floats_length, float *store, size_t store_length,
                                 size_t *progress, size_t progress_length);
 
 /* A fresh start: refusals 1 to 5, then the needed floats of the store are cleared. Positions and floats
  * are zero afterwards, refused 1 to 5 or not; 101 and 102 change nothing. */
-sedhavil_answer sedhavil_start(uint32_t rate, const uint64_t *stages, size_t stages_length,
-                               size_t *positions, size_t positions_length,
-                               float *floats, size_t floats_length,
-                               float *store, size_t store_length);
+sedhavil_answer sedhavil_start(uint32_t rate, const uint64_t *stages, size_t stages_length, size_t *positions,
+                               size_t positions_length, float *floats, size_t floats_length, float *store,
+                               size_t store_length);
 
 /* How many floats the store needs: the place of an answer 0. Refusals 101, 102 and 1 to 4. */
 sedhavil_answer sedhavil_floats_needed(uint32_t rate, const uint64_t *stages, size_t stages_length);
+
+/* ---- WAV files of 16-bit stereo samples: two bytes a sample, the low one first, and four a frame.
+ *
+ *   number  the header is refused because
+ *   21      a chunk name is wrong, fmt's size is not 16, or RIFF's is not that of the data + 36
+ *   22      it is not tag 1, two channels, 16 bits, blocks of 4 and a byte rate of four times the rate
+ *   23      the rate is below 8,000, above 192,000 or above the one asked for
+ *   24      the size of the data is not a multiple of 4
+ *   25      there are fewer than 44 bytes
+ *
+ * The first that applies is given: 25, then 21 to 24. */
+
+enum {
+    SEDHAVIL_WAV_HEADER = 44, /* the bytes of a header; the data follow */
+    SEDHAVIL_WAV_READ = 0,
+    SEDHAVIL_WAV_REFUSED_NAMES = 21,
+    SEDHAVIL_WAV_REFUSED_FORMAT = 22,
+    SEDHAVIL_WAV_REFUSED_RATE = 23,
+    SEDHAVIL_WAV_REFUSED_SIZE = 24,
+    SEDHAVIL_WAV_REFUSED_SHORT = 25
+};
+
+typedef struct {
+    uint32_t number;
+    uint32_t rate; /* this and the size are 0 where the number is not */
+    uint32_t size; /* the bytes of data to come */
+} sedhavil_header;
+
+/* What the first 44 bytes say to a program that takes rates up to `most`. */
+sedhavil_header sedhavil_wav_header(const uint8_t *bytes, size_t bytes_length, uint32_t most);
+
+/* Bytes become samples, each s / 32768, and samples become bytes, each the nearest whole number to
+ * 32768 x, ties to even, held to -32768..32767, NaN as 0. As many whole frames go over as both sides have
+ * room for, which is the answer; what lies past them is as it was. */
+size_t sedhavil_frames_in(const uint8_t *bytes, size_t bytes_length, float *samples, size_t samples_length);
+size_t sedhavil_frames_out(const float *samples, size_t samples_length, uint8_t *bytes, size_t bytes_length);
 
 /* ---- A stage's five words: the kind, then its numbers; words that a kind does not use may hold anything.
  * A level in whole dB is its two's complement, an f32 its bits in the low half, an f64 its bits. */
@@ -133,26 +164,32 @@ enum {
 };
 
 typedef enum { SEDHAVIL_HARD_CLIP = 0, SEDHAVIL_SOFT_CLIP = 1 } sedhavil_clip;
-typedef enum { SEDHAVIL_LOW_PASS = 0, SEDHAVIL_BAND_PASS = 1, SEDHAVIL_HIGH_PASS = 2, SEDHAVIL_NOTCH = 3 } sedhavil_mode;
+typedef enum {
+    SEDHAVIL_LOW_PASS = 0,
+    SEDHAVIL_BAND_PASS = 1,
+    SEDHAVIL_HIGH_PASS = 2,
+    SEDHAVIL_NOTCH = 3
+} sedhavil_mode;
 typedef enum { SEDHAVIL_BELL = 0, SEDHAVIL_LOW_SHELF = 1, SEDHAVIL_HIGH_SHELF = 2 } sedhavil_band;
 
-static inline uint64_t sedhavil_level(int32_t decibels) {
+static inline uint64_t sedhavil_level_word(int32_t decibels) {
     return (uint64_t)(int64_t)decibels;
 }
 
-static inline uint64_t sedhavil_single(float x) {
+static inline uint64_t sedhavil_single_word(float x) {
     uint32_t bits;
     memcpy(&bits, &x, sizeof bits);
     return bits;
 }
 
-static inline uint64_t sedhavil_double(double x) {
+static inline uint64_t sedhavil_double_word(double x) {
     uint64_t bits;
     memcpy(&bits, &x, sizeof bits);
     return bits;
 }
 
-static inline void sedhavil_words(uint64_t *stage, uint64_t kind, uint64_t a, uint64_t b, uint64_t c, uint64_t d) {
+static inline void sedhavil_stage_words(uint64_t *stage, uint64_t kind, uint64_t a, uint64_t b, uint64_t c,
+                                        uint64_t d) {
     stage[0] = kind;
     stage[1] = a;
     stage[2] = b;
@@ -161,40 +198,50 @@ static inline void sedhavil_words(uint64_t *stage, uint64_t kind, uint64_t a, ui
 }
 
 /* volume: whole dB, at most 24; from -60 down is silence */
-static inline void sedhavil_volume_control(uint64_t *stage, int32_t volume) {
-    sedhavil_words(stage, SEDHAVIL_VOLUME_CONTROL, sedhavil_level(volume), 0, 0, 0);
+static inline void sedhavil_stage_volume_control(uint64_t *stage, int32_t volume) {
+    sedhavil_stage_words(stage, SEDHAVIL_VOLUME_CONTROL, sedhavil_level_word(volume), 0, 0, 0);
 }
 
 /* panning: from -1, left, to 1, right; beyond is clamped */
-static inline void sedhavil_panning_control(uint64_t *stage, float panning) {
-    sedhavil_words(stage, SEDHAVIL_PANNING_CONTROL, sedhavil_single(panning), 0, 0, 0);
+static inline void sedhavil_stage_panning_control(uint64_t *stage, float panning) {
+    sedhavil_stage_words(stage, SEDHAVIL_PANNING_CONTROL, sedhavil_single_word(panning), 0, 0, 0);
 }
 
 /* drive: whole dB, -59 to 24. mix, here and below: from 0, dry, to 1, wet; beyond is clamped */
-static inline void sedhavil_distortion(uint64_t *stage, sedhavil_clip kind, int32_t drive, float mix) {
-    sedhavil_words(stage, SEDHAVIL_DISTORTION, (uint64_t)kind, sedhavil_level(drive), sedhavil_single(mix), 0);
+static inline void sedhavil_stage_distortion(uint64_t *stage, sedhavil_clip kind, int32_t drive, float mix) {
+    sedhavil_stage_words(stage, SEDHAVIL_DISTORTION, (uint64_t)kind, sedhavil_level_word(drive),
+                         sedhavil_single_word(mix), 0);
 }
 
 /* g: tan(pi * f / rate), with f / rate held to 0.0001..0.5 as kira does; 2^-13 to 10^17 is taken.
  * resonance: 0 to 1; beyond is clamped */
-static inline void sedhavil_filter(uint64_t *stage, sedhavil_mode mode, double g, double resonance, float mix) {
-    sedhavil_words(stage, SEDHAVIL_FILTER, (uint64_t)mode, sedhavil_double(g), sedhavil_double(resonance), sedhavil_single(mix));
+static inline void sedhavil_stage_filter(uint64_t *stage, sedhavil_mode mode, double g, double resonance,
+                                         float mix) {
+    sedhavil_stage_words(stage, SEDHAVIL_FILTER, (uint64_t)mode, sedhavil_double_word(g),
+                         sedhavil_double_word(resonance), sedhavil_single_word(mix));
 }
 
 /* g: as of a filter. gain: whole dB, -24 to 24. q: 0 to 1,000; below 0.01 counts as 0.01 */
-static inline void sedhavil_eq_filter(uint64_t *stage, sedhavil_band kind, double g, int32_t gain, double q) {
-    sedhavil_words(stage, SEDHAVIL_EQ_FILTER, (uint64_t)kind, sedhavil_double(g), sedhavil_level(gain), sedhavil_double(q));
+static inline void sedhavil_stage_eq_filter(uint64_t *stage, sedhavil_band kind, double g, int32_t gain,
+                                            double q) {
+    sedhavil_stage_words(stage, SEDHAVIL_EQ_FILTER, (uint64_t)kind, sedhavil_double_word(g),
+                         sedhavil_level_word(gain), sedhavil_double_word(q));
 }
 
 /* feedback, damping, stereo_width: each 0 to 1 */
-static inline void sedhavil_reverb(uint64_t *stage, float feedback, float damping, float stereo_width, float mix) {
-    sedhavil_words(stage, SEDHAVIL_REVERB, sedhavil_single(feedback), sedhavil_single(damping), sedhavil_single(stereo_width), sedhavil_single(mix));
+static inline void sedhavil_stage_reverb(uint64_t *stage, float feedback, float damping, float stereo_width,
+                                         float mix) {
+    sedhavil_stage_words(stage, SEDHAVIL_REVERB, sedhavil_single_word(feedback),
+                         sedhavil_single_word(damping), sedhavil_single_word(stereo_width),
+                         sedhavil_single_word(mix));
 }
 
 /* frames: 1 to 480,000. feedback: whole dB, at most 24. owned: how many of the stages after it, nested
  * ones counted, are its feedback stages */
-static inline void sedhavil_delay(uint64_t *stage, uint32_t frames, int32_t feedback, float mix, size_t owned) {
-    sedhavil_words(stage, SEDHAVIL_DELAY, frames, sedhavil_level(feedback), sedhavil_single(mix), owned);
+static inline void sedhavil_stage_delay(uint64_t *stage, uint32_t frames, int32_t feedback, float mix,
+                                        size_t owned) {
+    sedhavil_stage_words(stage, SEDHAVIL_DELAY, frames, sedhavil_level_word(feedback),
+                         sedhavil_single_word(mix), owned);
 }
 
 #ifdef __cplusplus

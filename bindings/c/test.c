@@ -1,5 +1,5 @@
-/* The face from C. What is expected was written by hand from document 01 (its examples P7 to P9, P12, P13
- * and its numbers on each side of an edge) and from the rules in sedhavil.h. Every refusal is also held to
+/* The face from C. What is expected was written by hand from document 01 (its examples P7 to P9, P12, P13,
+ * its WAV case and its numbers on each side of an edge) and from the rules in sedhavil.h. Every refusal is also held to
  * "nothing has changed". `bindings/c/run` builds and runs this. */
 #include "sedhavil.h"
 
@@ -37,35 +37,42 @@ static void check(int ok, const char *what) {
 static void fresh(size_t n) {
     memset(&c, 0, sizeof c);
     c.rate = 44100;
-    for (size_t i = 0; i < n; i++) sedhavil_volume_control(c.stages + i * SEDHAVIL_WORDS, 0);
+    for (size_t i = 0; i < n; i++)
+        sedhavil_stage_volume_control(c.stages + i * SEDHAVIL_WORDS, 0);
     c.len_stages = n * SEDHAVIL_WORDS;
-    for (size_t i = 0; i < SAMPLES; i++) c.samples[i] = 0.25f;
+    for (size_t i = 0; i < SAMPLES; i++)
+        c.samples[i] = 0.25f;
     c.len_samples = 4;
     c.len_positions = SEDHAVIL_POSITIONS;
     c.len_floats = SEDHAVIL_FLOATS;
-    for (size_t i = 0; i < STORE; i++) c.store[i] = 0.125f;
+    for (size_t i = 0; i < STORE; i++)
+        c.store[i] = 0.125f;
     c.len_store = STORE;
     c.len_progress = SEDHAVIL_PROGRESS;
 }
 
-static uint64_t *stage(size_t i) { return c.stages + i * SEDHAVIL_WORDS; }
+static uint64_t *stage(size_t i) {
+    return c.stages + i * SEDHAVIL_WORDS;
+}
 
 static sedhavil_answer run(void) {
     memcpy(&before, &c, sizeof c);
-    return sedhavil_run(c.rate, c.stages, c.len_stages, c.samples, c.len_samples, c.positions, c.len_positions,
-                        c.floats, c.len_floats, c.store, c.len_store, c.progress, c.len_progress, c.order, c.len_order);
+    return sedhavil_run(c.rate, c.stages, c.len_stages, c.samples, c.len_samples, c.positions,
+                        c.len_positions, c.floats, c.len_floats, c.store, c.len_store, c.progress,
+                        c.len_progress, c.order, c.len_order);
 }
 
 static sedhavil_answer render(void) {
     memcpy(&before, &c, sizeof c);
-    return sedhavil_render(c.rate, c.stages, c.len_stages, c.samples, c.len_samples, c.positions, c.len_positions,
-                           c.floats, c.len_floats, c.store, c.len_store, c.progress, c.len_progress);
+    return sedhavil_render(c.rate, c.stages, c.len_stages, c.samples, c.len_samples, c.positions,
+                           c.len_positions, c.floats, c.len_floats, c.store, c.len_store, c.progress,
+                           c.len_progress);
 }
 
 static sedhavil_answer start(void) {
     memcpy(&before, &c, sizeof c);
-    return sedhavil_start(c.rate, c.stages, c.len_stages, c.positions, c.len_positions, c.floats, c.len_floats,
-                          c.store, c.len_store);
+    return sedhavil_start(c.rate, c.stages, c.len_stages, c.positions, c.len_positions, c.floats,
+                          c.len_floats, c.store, c.len_store);
 }
 
 static sedhavil_answer needed(void) {
@@ -73,14 +80,19 @@ static sedhavil_answer needed(void) {
     return sedhavil_floats_needed(c.rate, c.stages, c.len_stages);
 }
 
-static int is(sedhavil_answer a, uint32_t number, size_t place) { return a.number == number && a.place == place; }
+static int is(sedhavil_answer a, uint32_t number, size_t place) {
+    return a.number == number && a.place == place;
+}
 
-static int unchanged(void) { return memcmp(&c, &before, sizeof c) == 0; }
+static int unchanged(void) {
+    return memcmp(&c, &before, sizeof c) == 0;
+}
 
 /* run and render answer so, and change nothing */
 static void refused(uint32_t number, size_t place, const char *what) {
     check(is(run(), number, place) && unchanged(), what);
-    if (number != SEDHAVIL_REFUSED_ENTRY) check(is(render(), number, place) && unchanged(), what);
+    if (number != SEDHAVIL_REFUSED_ENTRY)
+        check(is(render(), number, place) && unchanged(), what);
 }
 
 /* an empty order is taken, and leaves all as it was */
@@ -126,7 +138,7 @@ static void lengths(void) {
 static void unknown(uint64_t kind, uint64_t a, uint64_t b, uint64_t k, uint64_t d, const char *what) {
     fresh(3);
     c.rate = 0; /* 102 is ranked before 1 */
-    sedhavil_words(stage(1), kind, a, b, k, d);
+    sedhavil_stage_words(stage(1), kind, a, b, k, d);
     refused(102, 1, what);
     check(is(start(), 102, 1) && unchanged(), what);
     check(is(needed(), 102, 1) && unchanged(), what);
@@ -134,12 +146,13 @@ static void unknown(uint64_t kind, uint64_t a, uint64_t b, uint64_t k, uint64_t 
 
 static void known(uint64_t kind, uint64_t a, uint64_t b, uint64_t k, uint64_t d, const char *what) {
     fresh(3);
-    sedhavil_words(stage(1), kind, a, b, k, d);
+    sedhavil_stage_words(stage(1), kind, a, b, k, d);
     taken(what);
 }
 
 static void words(void) {
-    const uint64_t wide = UINT64_C(0x100000000), one = 0x3f800000, g = UINT64_C(0x3ff0000000000000), any = UINT64_MAX;
+    const uint64_t wide = UINT64_C(0x100000000), one = 0x3f800000, g = UINT64_C(0x3ff0000000000000),
+                   any = UINT64_MAX;
     unknown(7, 0, 0, 0, 0, "kind 7");
     unknown(any, 0, 0, 0, 0, "kind 2^64 - 1");
     unknown(0, UINT64_C(0x80000000), 0, 0, 0, "volume 2^31");
@@ -174,25 +187,28 @@ static void words(void) {
 }
 
 /* each kind's words, as the inline functions write them */
-static void written(const uint64_t *w, uint64_t kind, uint64_t a, uint64_t b, uint64_t k, uint64_t d, const char *what) {
+static void written(const uint64_t *w, uint64_t kind, uint64_t a, uint64_t b, uint64_t k, uint64_t d,
+                    const char *what) {
     check(w[0] == kind && w[1] == a && w[2] == b && w[3] == k && w[4] == d, what);
 }
 
 static void builders(void) {
     uint64_t w[SEDHAVIL_WORDS];
-    sedhavil_volume_control(w, -6);
+    sedhavil_stage_volume_control(w, -6);
     written(w, 0, UINT64_MAX - 5, 0, 0, 0, "volume's words");
-    sedhavil_panning_control(w, -1.0f);
+    sedhavil_stage_panning_control(w, -1.0f);
     written(w, 1, 0xbf800000, 0, 0, 0, "panning's words");
-    sedhavil_distortion(w, SEDHAVIL_SOFT_CLIP, 24, 0.5f);
+    sedhavil_stage_distortion(w, SEDHAVIL_SOFT_CLIP, 24, 0.5f);
     written(w, 2, 1, 24, 0x3f000000, 0, "distortion's words");
-    sedhavil_filter(w, SEDHAVIL_NOTCH, 1.0, 0.5, 1.0f);
-    written(w, 3, 3, UINT64_C(0x3ff0000000000000), UINT64_C(0x3fe0000000000000), 0x3f800000, "filter's words");
-    sedhavil_eq_filter(w, SEDHAVIL_HIGH_SHELF, 1.0, -24, 0.5);
-    written(w, 4, 2, UINT64_C(0x3ff0000000000000), UINT64_MAX - 23, UINT64_C(0x3fe0000000000000), "EQ's words");
-    sedhavil_reverb(w, 0.5f, 0.25f, 1.0f, -0.0f);
+    sedhavil_stage_filter(w, SEDHAVIL_NOTCH, 1.0, 0.5, 1.0f);
+    written(w, 3, 3, UINT64_C(0x3ff0000000000000), UINT64_C(0x3fe0000000000000), 0x3f800000,
+            "filter's words");
+    sedhavil_stage_eq_filter(w, SEDHAVIL_HIGH_SHELF, 1.0, -24, 0.5);
+    written(w, 4, 2, UINT64_C(0x3ff0000000000000), UINT64_MAX - 23, UINT64_C(0x3fe0000000000000),
+            "EQ's words");
+    sedhavil_stage_reverb(w, 0.5f, 0.25f, 1.0f, -0.0f);
     written(w, 5, 0x3f000000, 0x3e800000, 0x3f800000, 0x80000000, "reverb's words");
-    sedhavil_delay(w, 480000, -60, 1.0f, 15);
+    sedhavil_stage_delay(w, 480000, -60, 1.0f, 15);
     written(w, 6, 480000, UINT64_MAX - 59, 0x3f800000, 15, "delay's words");
 }
 
@@ -212,30 +228,30 @@ static void eleven(void) {
     fresh(16);
     taken("16 stages");
     fresh(2);
-    sedhavil_delay(stage(1), 1, 0, 1.0f, 1);
+    sedhavil_stage_delay(stage(1), 1, 0, 1.0f, 1);
     refused(3, 1, "a delay that owns a stage past the end");
     check(is(needed(), 3, 1), "floats needed by a delay that owns a stage past the end");
     fresh(2);
-    sedhavil_delay(stage(1), 480001, 0, 1.0f, 0);
+    sedhavil_stage_delay(stage(1), 480001, 0, 1.0f, 0);
     refused(4, 1, "a delay of 480,001 frames");
-    sedhavil_delay(stage(1), 0, 0, 1.0f, 0);
+    sedhavil_stage_delay(stage(1), 0, 0, 1.0f, 0);
     refused(4, 1, "a delay of no frame");
     check(is(needed(), 4, 1), "floats needed by a delay of no frame");
-    sedhavil_delay(stage(1), 480000, 0, 1.0f, 0);
+    sedhavil_stage_delay(stage(1), 480000, 0, 1.0f, 0);
     check(is(needed(), 0, 960000), "a delay of 480,000 frames");
-    sedhavil_eq_filter(stage(1), SEDHAVIL_BELL, 1.0, 25, 1.0);
+    sedhavil_stage_eq_filter(stage(1), SEDHAVIL_BELL, 1.0, 25, 1.0);
     refused(4, 1, "a gain of 25");
-    sedhavil_eq_filter(stage(1), SEDHAVIL_BELL, 1.0, 24, 1.0);
+    sedhavil_stage_eq_filter(stage(1), SEDHAVIL_BELL, 1.0, 24, 1.0);
     taken("a gain of 24");
     fresh(1);
-    sedhavil_reverb(stage(0), 0.9f, 0.1f, 1.0f, 0.5f);
+    sedhavil_stage_reverb(stage(0), 0.9f, 0.1f, 1.0f, 0.5f);
     check(is(needed(), 0, 25450), "one reverb at 44,100 Hz");
     c.len_store = 25449;
     refused(5, 25450, "a store of 25,449 floats");
     c.len_store = 25450;
     taken("a store of 25,450 floats");
     fresh(2);
-    sedhavil_delay(stage(1), 5, 0, 1.0f, 0);
+    sedhavil_stage_delay(stage(1), 5, 0, 1.0f, 0);
     c.positions[24] = 5;
     refused(6, 1, "a position past its line");
     c.positions[24] = 4;
@@ -276,35 +292,37 @@ static void orders(void) {
 }
 
 static void frame_is(float left, float right, const char *what) {
-    check(memcmp(&c.samples[0], &left, sizeof left) == 0 && memcmp(&c.samples[1], &right, sizeof right) == 0, what);
+    check(memcmp(&c.samples[0], &left, sizeof left) == 0 && memcmp(&c.samples[1], &right, sizeof right) == 0,
+          what);
 }
 
 /* P7, P8, P9 and P12 */
 static void values(void) {
     fresh(1);
     c.samples[0] = c.samples[1] = 3;
-    sedhavil_distortion(stage(0), SEDHAVIL_HARD_CLIP, 0, 1.0f);
+    sedhavil_stage_distortion(stage(0), SEDHAVIL_HARD_CLIP, 0, 1.0f);
     check(is(render(), 0, 0), "hard clip");
     frame_is(1, 1, "hard clip of 3");
     fresh(1);
     c.samples[0] = c.samples[1] = 1;
-    sedhavil_distortion(stage(0), SEDHAVIL_SOFT_CLIP, 0, 1.0f);
+    sedhavil_stage_distortion(stage(0), SEDHAVIL_SOFT_CLIP, 0, 1.0f);
     check(is(render(), 0, 0), "soft clip");
     frame_is(0.5f, 0.5f, "soft clip of 1");
     fresh(1);
     c.samples[0] = c.samples[1] = 1;
-    sedhavil_panning_control(stage(0), -1.0f);
+    sedhavil_stage_panning_control(stage(0), -1.0f);
     check(is(render(), 0, 0), "panning");
     frame_is(0x1.6a09e6p+0f, 0, "panning -1");
     fresh(1);
     c.samples[0] = c.samples[1] = 1;
-    sedhavil_panning_control(stage(0), 0x1p-30f);
+    sedhavil_stage_panning_control(stage(0), 0x1p-30f);
     check(is(render(), 0, 0), "panning");
     frame_is(1 - 0x1p-24f, 1 - 0x1p-24f, "panning 2^-30");
     fresh(1);
-    sedhavil_delay(stage(0), 1, 0, 1.0f, 0);
+    sedhavil_stage_delay(stage(0), 1, 0, 1.0f, 0);
     check(is(start(), 0, 0), "start");
-    check(c.store[0] == 0 && c.store[1] == 0 && c.store[2] == 0.125f, "the needed floats are cleared, and no others");
+    check(c.store[0] == 0 && c.store[1] == 0 && c.store[2] == 0.125f,
+          "the needed floats are cleared, and no others");
     const float in[6] = {1, 1, 0, 0, 0, 0}, out[6] = {0, 0, 1, 1, 1, 1};
     memcpy(c.samples, in, sizeof in);
     c.len_samples = 6;
@@ -324,6 +342,59 @@ static void starts(void) {
     check(unchanged(), "leaves memories at zero, and the rest");
 }
 
+/* document 01's whole case, of 52 bytes */
+static const uint8_t file[52] = {
+    0x52, 0x49, 0x46, 0x46, 0x2C, 0x00, 0x00, 0x00, 0x57, 0x41, 0x56, 0x45, 0x66, 0x6D, 0x74, 0x20, 0x10, 0x00,
+    0x00, 0x00, 0x01, 0x00, 0x02, 0x00, 0x80, 0xBB, 0x00, 0x00, 0x00, 0xEE, 0x02, 0x00, 0x04, 0x00, 0x10, 0x00,
+    0x64, 0x61, 0x74, 0x61, 0x08, 0x00, 0x00, 0x00, 0x00, 0x40, 0x00, 0xC0, 0xFF, 0x7F, 0x00, 0x80};
+
+/* its header, with one byte changed, is answered so */
+static void header_is(size_t at, uint8_t byte, size_t length, uint32_t most, uint32_t number, const char *what) {
+    uint8_t bytes[52];
+    memcpy(bytes, file, sizeof bytes);
+    bytes[at] = byte;
+    sedhavil_header h = sedhavil_wav_header(bytes, length, most);
+    check(h.number == number && h.rate == (number ? 0 : 48000) && h.size == (number ? 0 : 8), what);
+}
+
+static void headers(void) {
+    header_is(0, 0x52, 52, 192000, 0, "the whole case's header");
+    header_is(0, 0x52, 44, 48000, 0, "44 bytes, and its own rate as the most");
+    header_is(0, 0x52, 44, 47999, 23, "47,999 as the most");
+    header_is(0, 0x53, 43, 0, 25, "43 bytes, before all else");
+    header_is(0, 0x53, 44, 0, 21, "SIFF, before the rate");
+    header_is(4, 0x2B, 44, 192000, 21, "RIFF size not data size + 36");
+    header_is(16, 0x12, 44, 192000, 21, "fmt size 18");
+    header_is(20, 0x03, 44, 0, 22, "tag 3, before the rate");
+    header_is(22, 0x01, 44, 192000, 22, "one channel");
+    header_is(28, 0x01, 44, 192000, 22, "byte rate not 4R");
+    check(sedhavil_wav_header(file, 0, 192000).number == 25, "no bytes");
+    uint8_t odd[44];
+    memcpy(odd, file, sizeof odd);
+    odd[40] = 0x0A;
+    odd[4] = 0x2E;
+    check(sedhavil_wav_header(odd, 44, 47999).number == 23, "the rate before the size");
+    check(sedhavil_wav_header(odd, 44, 48000).number == 24, "10 bytes of data");
+}
+
+static void frames(void) {
+    const float in[5] = {0.5f, -0.5f, 32767 / 32768.0f, -1, 7};
+    float samples[5] = {7, 7, 7, 7, 7};
+    check(sedhavil_frames_in(file + 44, 8, samples, 5) == 2 && memcmp(samples, in, sizeof in) == 0, "s / 32768");
+    uint8_t bytes[11];
+    memset(bytes, 0x55, sizeof bytes);
+    check(sedhavil_frames_out(samples, 5, bytes, 11) == 2 && memcmp(bytes, file + 44, 8) == 0, "and back");
+    check(bytes[8] == 0x55 && bytes[9] == 0x55 && bytes[10] == 0x55, "what lies past the frames");
+    check(sedhavil_frames_in(file + 44, 7, samples, 5) == 1, "7 bytes are one frame");
+    check(sedhavil_frames_out(samples, 4, bytes, 7) == 1, "and so many are written");
+    check(sedhavil_frames_in(file + 44, 8, samples, 1) == 0, "one sample is no frame");
+    /* 32768 x is 0.5, 1.5, 2.5, -0.5, -1.5, over either end, infinite and NaN */
+    const float x[10] = {0x1p-16f, 0x1.8p-15f, 0x1.4p-14f, -0x1p-16f, -0x1.8p-15f, 1, -0x1.00002p+0f, INFINITY, -INFINITY, NAN};
+    const uint8_t out[20] = {0, 0, 2, 0, 2, 0, 0, 0, 0xFE, 0xFF, 0xFF, 0x7F, 0x00, 0x80, 0xFF, 0x7F, 0x00, 0x80, 0, 0};
+    uint8_t got[20];
+    check(sedhavil_frames_out(x, 10, got, 20) == 5 && memcmp(got, out, sizeof out) == 0, "ties to even, held to 16 bits");
+}
+
 int main(void) {
     lengths();
     words();
@@ -332,6 +403,8 @@ int main(void) {
     orders();
     values();
     starts();
+    headers();
+    frames();
     printf("C: %d checks, %d failed\n", checks, failures);
     return failures != 0;
 }

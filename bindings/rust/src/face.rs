@@ -10,6 +10,14 @@ pub struct Answer {
     pub place: usize,
 }
 
+#[repr(C)]
+#[derive(Clone, Copy)]
+pub struct WavHeader {
+    pub number: u32,
+    pub rate: u32,
+    pub size: u32,
+}
+
 unsafe extern "C" {
     fn sedhavil_run(
         rate: u32,
@@ -58,6 +66,22 @@ unsafe extern "C" {
     ) -> Answer;
 
     fn sedhavil_floats_needed(rate: u32, stages: *const u64, stages_length: usize) -> Answer;
+
+    fn sedhavil_wav_header(bytes: *const u8, bytes_length: usize, most: u32) -> WavHeader;
+
+    fn sedhavil_frames_in(
+        bytes: *const u8,
+        bytes_length: usize,
+        samples: *mut f32,
+        samples_length: usize,
+    ) -> usize;
+
+    fn sedhavil_frames_out(
+        samples: *const f32,
+        samples_length: usize,
+        bytes: *mut u8,
+        bytes_length: usize,
+    ) -> usize;
 }
 
 #[allow(clippy::too_many_arguments)]
@@ -148,4 +172,19 @@ pub fn start(
 pub fn floats_needed(rate: u32, stages: &[u64]) -> Answer {
     // SAFETY: as of `run`.
     unsafe { sedhavil_floats_needed(rate, stages.as_ptr(), stages.len()) }
+}
+
+pub fn wav_header(bytes: &[u8], most: u32) -> WavHeader {
+    // SAFETY: as of `run`.
+    unsafe { sedhavil_wav_header(bytes.as_ptr(), bytes.len(), most) }
+}
+
+pub fn frames_in(bytes: &[u8], samples: &mut [f32]) -> usize {
+    // SAFETY: as of `run`.
+    unsafe { sedhavil_frames_in(bytes.as_ptr(), bytes.len(), samples.as_mut_ptr(), samples.len()) }
+}
+
+pub fn frames_out(samples: &[f32], bytes: &mut [u8]) -> usize {
+    // SAFETY: as of `run`.
+    unsafe { sedhavil_frames_out(samples.as_ptr(), samples.len(), bytes.as_mut_ptr(), bytes.len()) }
 }

@@ -17,7 +17,8 @@
 //! # Ok::<(), sedhavil::Refusal>(())
 //! ```
 //!
-//! What cannot be run is refused with a [`Refusal`], and then nothing has changed.
+//! What cannot be run is refused with a [`Refusal`], and then nothing has changed. The module [`wav`] turns
+//! the bytes of a WAV file into samples and back.
 //!
 //! # The float mode
 //!
@@ -31,6 +32,7 @@
 mod face;
 mod refusal;
 mod stage;
+pub mod wav;
 
 pub use refusal::Refusal;
 pub use stage::{DistortionKind, EqFilterKind, FilterMode, Stage, g};

@@ -1,4 +1,3 @@
 pub mod Keeps
 pub mod Moved
 pub mod OnLines
-pub mod Examples

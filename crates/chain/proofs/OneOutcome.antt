@@ -2,8 +2,8 @@
 use mathlib.Core.Path.{_≡_, sym, _∙_}
 use mathlib.Core.List.{List}
 use denote.Ref.{now}
+use Rattle.float.proofs.Outcome.{SingleLent}
 use lib.Ieee.{Float}
-use Rattle.line.proofs.Outcome.{SingleLent}
 use Rattle.chain.specs.declared.run.Outcome.{Outcome}
 use Rattle.chain.specs.Chain.{state}
 use Rattle.chain.proofs.run as run

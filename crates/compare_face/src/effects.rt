@@ -1,4 +1,4 @@
-// The crate `effect`: each function calls the `process` of its kind, and promises what that one
+// The crates `effect`, `integrators` and `filters`: each function calls the `process` of its kind, and promises what that one
 // does, in structs that C can read.
 ghost use mathlib.Core.Path.{_≡_};
 ghost use Rattle.effect.specs.VolumeControl.{volumeOf};

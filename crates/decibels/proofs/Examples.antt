@@ -1,29 +1,14 @@
--- Values by hand, and by `powf` in kira: at 0, 20 and -60 decibels, and where the table begins and ends. Assumes nothing.
+-- Values by hand: at -20 decibels, and where the tables begin and end. Assumes nothing.
 use mathlib.Core.Path.{_≡_, refl}
 use lib.IntN.{pos, negsuc}
 use lib.Ieee.{nan, binary32, binary64, ofBits, round}
 use Rattle.float.specs.Literal.{literal}
 use Rattle.decibels.specs.Amplitude.{amplitudeOf, eqAmplitudeOf}
 
--- 0 dB is 1
-unity : amplitudeOf (pos 0) ≡ literal binary32 1 1
-unfolding amplitudeOf literal ofBits round
-unity = refl
-
--- 20 dB is 10
-ten : amplitudeOf (pos 20) ≡ literal binary32 10 1
-unfolding amplitudeOf literal ofBits round
-ten = refl
-
 -- -20 dB is 0.1, rounded
 tenth : amplitudeOf (negsuc 19) ≡ literal binary32 1 10
 unfolding amplitudeOf literal ofBits round
 tenth = refl
-
--- -60 dB is silence
-silence : amplitudeOf (negsuc 59) ≡ literal binary32 0 1
-unfolding amplitudeOf
-silence = refl
 
 -- -59 dB is the first entry and 24 dB the last
 first : amplitudeOf (negsuc 58) ≡ ofBits binary32 0x3a93_10b1

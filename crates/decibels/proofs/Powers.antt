@@ -13,6 +13,7 @@ use lib.ListN.{getD}
 use lib.Ieee.{Float, nan, Format, ofBits}
 use borrow.Author.Tests.{lt-ltb}
 use Rattle.nearest.specs.Nearest.{Nearest, Nearer, sum, product}
+use Rattle.decibels.specs.Power.{NearestPower}
 use Rattle.decibels.proofs.Places.{entryOf}
 
 -- n and d may have a common factor
@@ -32,11 +33,6 @@ scaled {f} {s} {j} {n} {d} {y} c C h = record { held = h .held; sign = h .sign; 
           above = λ l. le-of-mul-le-mul-right (le-trans (le-of-eq (sym (right z))) (le-trans (g .above l) (le-of-eq (left z)))) C;
           tie = λ u e. g .tie u (left z ∙ ap (λ (x : ℕ). x * c) e ∙ sym (right z));
         }
-
--- y is the value nearest to 10 ^ (z / j)
-abbrev pub NearestPower : Format → ℕ → ℤ → Float → Type 0
-NearestPower f j (pos k) y = Nearest f false j (10 ^ k) 1 y
-NearestPower f j (negsuc k) y = Nearest f false j 1 (10 ^ suc k) y
 
 ten-pos : (k : ℕ) → 0 < 10 ^ k
 ten-pos k = pow-le-pow-right {n = 10} (lit< tt) {i = 0} {j = k} (omega arith)

@@ -1,6 +1,6 @@
 -- The amplitudes of whole decibels, by table. Definitions only.
 -- That each entry is the float nearest to the power of ten, and the only one, is proved by `amplitude-nearest` and `eq-amplitude-nearest` of proofs/Tables.antt, in the words of specs/Nearest.antt of crate `nearest`.
-use Prim.Native.Nat.{ℕ, suc, _+_, _-_}
+use Prim.Native.Nat.{ℕ, _+_, _-_}
 use mathlib.Core.Bool.{cond}
 use mathlib.Core.List.{List, [], _∷_}
 use lib.Dec.{ltb}

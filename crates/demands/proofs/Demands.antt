@@ -12,7 +12,7 @@ use Rattle.rounding.specs.Root.{sqrtOf}
 use Rattle.rounding.specs.Narrow.{narrowOf}
 use Rattle.nearest.proofs.Evidence as Evidence
 use Rattle.decibels.specs.Amplitude.{amplitudeOf, eqAmplitudeOf}
-use Rattle.decibels.proofs.Powers.{NearestPower}
+use Rattle.decibels.specs.Power.{NearestPower}
 use Rattle.decibels.proofs.Tables as Tables
 use Rattle.chain.specs.Table.{AnswersTabled, RenderUnchanged, StartsTabled}
 use Rattle.chain.specs.Demands.{StepByStep, StepsKeepApart, StepsStandAlone, AnyOrder, WholeFrames, CutAnywhere, RenderIsRun}

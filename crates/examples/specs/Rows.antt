@@ -1,18 +1,16 @@
 -- Document 01's examples, P1 to P13: of each, what the definitions give that the public contracts cite, and what the document says. Numbers are whole, floats are written as their bits. Definitions only.
 use mathlib.Core.Path.{_≡_}
-use mathlib.Core.Bool.{true, false}
 use mathlib.Core.List.{List, [], _∷_, map}
 use Prim.Native.Nat.{ℕ, _+_, _^_}
 use lib.IntN.{pos, negsuc}
 use lib.ListN.{length, replicate}
-use lib.Ieee.{Float, fin, binary32, binary64, neg, toBits}
+use lib.Ieee.{Float, binary32, binary64, neg, toBits}
 use Rattle.float.specs.Literal.{literal}
 use Rattle.rounding.specs.Root.{sqrtOf}
 use Rattle.rounding.specs.Narrow.{narrowOf}
 use Rattle.decibels.specs.Amplitude.{amplitudeOf}
 use Rattle.frame.specs.declared.Frame.{Frame}
 use Rattle.frame.specs.Panning.{pannedOf}
-use Rattle.effect.specs.declared.distortion.DistortionKind.{DistortionKind}
 use Rattle.effect.specs.declared.distortion.DistortionKind.the-variants.{HardClip, SoftClip}
 use Rattle.effect.specs.Distortion.{distortionOf}
 use Rattle.line.specs.AllPass.{passedOf, passLineOf}

@@ -48,7 +48,7 @@ startLeft rate words h =
     (holds (startedOf rate (stagesOf words) (countOf words) (h .store)) (zeroMemories .positions) (zeroMemories .floats))
     h
 
--- ---- floats needed: where a store of no floats is refused only for want of room, the room it wants
+-- ---- floats needed: where a store of no floats is refused only for want of room, the room it wants (proofs/Needed.antt: where the lines of all stages end)
 
 unfoldable pub roomOut : answers.Answer → Answer
 roomOut a = cond (eqb (numberOf a) 5) (answer 0 (placeOf a)) (answerOut a)

@@ -1,6 +1,6 @@
-// The crate `chain` for C and Rust to link, with flat arguments: five words a stage, memories and progress
-// in slices. Anything may be passed in: a slice of the wrong length gets answer 101, words that are no stage
-// get 102, both before document 01's checks; refused means untouched.
+// The crates `chain` and, in `file`, `wav` for C and Rust to link, with flat arguments: five words a stage,
+// memories and progress in slices. Anything may be passed in: a slice of the wrong length gets answer 101,
+// words that are no stage get 102, both before document 01's checks; refused means untouched.
 ghost use mathlib.Core.Path.{_≡_};
 ghost use lib.ListN.{length};
 ghost use Rattle.line.specs.Held.{holds};
@@ -8,6 +8,7 @@ ghost use Rattle.chain.specs.Chain.{state};
 ghost use Rattle.face.specs.Call.{answerOut, faultOf};
 ghost use Rattle.face.specs.Face.{runAnswer, runLeft, renderAnswer, renderLeft, startAnswer, startLeft, roomOut, neededAnswer};
 
+pub mod file;
 mod slices;
 
 // Document 01's number and place; 101 or 102 for a call that cannot be read; 0 for an accepted one.

@@ -1,5 +1,5 @@
 -- Rust's `abs`, `clamp` and `max`. Definitions only.
-use mathlib.Core.Bool.{Bool, true, false, cond}
+use mathlib.Core.Bool.{false, cond}
 use lib.Ieee.{Float, nan, inf, fin, Format, binary64, lt, neg}
 use Rattle.float.specs.Literal.{literal}
 

@@ -1,8 +1,7 @@
 -- Each public function's promise admits one outcome: the answer, and all that it leaves. Assumes nothing.
 use mathlib.Core.Path.{sym, _∙_}
 use denote.Ref.{now}
-use Rattle.float.proofs.Outcome.{Single}
-use Rattle.line.proofs.Outcome.{SingleLent}
+use Rattle.float.proofs.Outcome.{Single, SingleLent}
 use Rattle.fresh.proofs.memories as memories
 use Rattle.fresh.proofs.start as start
 

@@ -4,7 +4,6 @@ use Rattle.float.specs.Literal.{literal}
 use Rattle.frame.specs.declared.Frame.{Frame}
 use Rattle.frame.specs.Operations.{addOf, subOf, mulOf}
 use Rattle.integrators.specs.declared.Integrators.{Integrators}
-use Rattle.integrators.specs.declared.Parts.{Parts}
 use Rattle.integrators.specs.declared.Stepped.{Stepped}
 use Rattle.integrators.specs.declared.Weights.{Weights}
 

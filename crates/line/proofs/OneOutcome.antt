@@ -1,8 +1,7 @@
 -- Each public function's promise admits one outcome, in what it gives and in what it leaves of what it was lent. Assumes nothing.
 use mathlib.Core.Path.{refl, sym, _∙_}
 use denote.Ref.{now}
-use Rattle.float.proofs.Outcome.{Single}
-use Rattle.line.proofs.Outcome.{SingleLent}
+use Rattle.float.proofs.Outcome.{Single, SingleLent}
 use Rattle.line.proofs.position as position
 use Rattle.line.proofs.comb as comb
 use Rattle.line.proofs.all_pass as all-pass

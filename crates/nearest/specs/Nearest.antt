@@ -3,7 +3,7 @@
 -- and t lies below, at or above a fraction a / b where n * b ^ j is below, at or above a ^ j * d.
 use Prim.Native.Nat.{ℕ, suc, _+_, _*_, _%_, _^_, _≤_, _<_}
 use mathlib.Core.Path.{_≡_}
-use mathlib.Core.Bool.{Bool, true, false, Bool·beq}
+use mathlib.Core.Bool.{Bool, false, Bool·beq}
 use lib.Dec.{T}
 use lib.Ieee.{Float, nan, inf, fin, Format, emax, up, down, fits, toBits}
 

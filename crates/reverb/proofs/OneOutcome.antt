@@ -1,9 +1,8 @@
 -- Each public function's promise admits one outcome, in what it gives and in what it leaves of what it was lent. Assumes nothing.
 use mathlib.Core.Path.{sym, _∙_}
 use denote.Ref.{now}
-use Rattle.float.proofs.Outcome.{Single}
+use Rattle.float.proofs.Outcome.{Single, SingleLent}
 use Rattle.line.specs.Held.{holds}
-use Rattle.line.proofs.Outcome.{SingleLent}
 use Rattle.reverb.proofs.tuning as tuning
 use Rattle.reverb.proofs.process as process
 

@@ -8,4 +8,3 @@ pub mod Aligned
 pub mod RootLaw
 pub mod Narrowing
 pub mod OneOutcome
-pub mod Examples

@@ -1,7 +1,7 @@
 -- IEEE 754's square root: the value nearest to the root. Definitions only.
 -- That `sqrtOf` is that value, and the only one, is proved over the format by `sqrt-nearest` and `only-nearest` of crate `nearest`, in the words of its Nearest.antt.
 use Prim.Native.Nat.{ℕ, zero, suc, _+_, _-_, _*_, _/_, _^_}
-use mathlib.Core.Bool.{Bool, true, false, cond}
+use mathlib.Core.Bool.{true, false, cond}
 use lib.Dec.{leb, ltb}
 use lib.Ieee.{Float, nan, inf, fin, Format, prec, low, up, down, size, units}
 

@@ -7,7 +7,6 @@ use lib.IntN.{ℤ}
 use lib.ListN.{getD, set}
 use lib.Ieee.{Float}
 use Rattle.decibels.specs.Amplitude.{amplitudeOf}
-use Rattle.frame.specs.declared.Frame.{Frame}
 use Rattle.frame.specs.Operations.{addOf, mulOf}
 use Rattle.frame.specs.Mix.{mixOf}
 use Rattle.filters.specs.declared.filter.FilterMode.{FilterMode}
@@ -17,7 +16,7 @@ use Rattle.effect.specs.PanningControl.{panningOf}
 use Rattle.effect.specs.Distortion.{distortionOf}
 use Rattle.filters.specs.Filter.{filterOf}
 use Rattle.filters.specs.EqFilter.{eqOf}
-use Rattle.line.specs.Held.{Held, holds, joined, Ran, ran}
+use Rattle.line.specs.Held.{holds, joined, Ran, ran}
 use Rattle.line.specs.Position as Position
 use Rattle.line.specs.Frames.{frameAt, frameIn}
 use Rattle.reverb.specs.Reverb.{reverbOf}

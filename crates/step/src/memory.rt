@@ -1,5 +1,5 @@
 // The two stages that remember frames. Their record lies in the floats of the place, after the 16
-// that a reverb's combs use: as frames they are the eighth and the ninth.
+// that a reverb's combs use: as frames they are at 8 and 9.
 ghost use mathlib.Core.Path.{_≡_};
 ghost use Rattle.step.specs.Memory.{remembered, remember};
 use integrators::Integrators;

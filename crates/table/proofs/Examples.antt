@@ -1,4 +1,4 @@
--- The edges of document 01's table of refusals, and its P13, worked out by antt on the definition that the contracts cite. Assumes nothing.
+-- The edges of document 01's table of refusals, worked out by antt on the definition that the contracts cite. Assumes nothing.
 use mathlib.Core.Path.{_≡_, refl}
 use mathlib.Core.Bool.{false}
 use mathlib.Core.List.{List, [], _∷_}
@@ -46,22 +46,6 @@ reverb = Reverb zero32 zero32 zero32 zero32
 
 abbrev pub delay : ℕ → ℕ → Stage
 delay frames owned = Delay frames (pos 0) zero32 owned
-
--- ---- P13: "two stages, one frame: order 1,0 gives refusal 11 at 0; order 0,1,0 at 2; order 0,1 is taken"
-abbrev pub two : List ℕ → List ℕ
-two order = told 48000 (volume ∷ volume ∷ []) 0 (zero32 ∷ zero32 ∷ []) order
-
-pub p13-second-first : two (1 ∷ 0 ∷ []) ≡ given 11 0
-unfolding answerOf numberOf placeOf faultyOf ownedOf firstFrom inRangeOf startOf lostOf topsOf nextOf finiteOf stuckOf
-p13-second-first = refl
-
-pub p13-first-again : two (0 ∷ 1 ∷ 0 ∷ []) ≡ given 11 2
-unfolding answerOf numberOf placeOf faultyOf ownedOf firstFrom inRangeOf startOf lostOf topsOf nextOf finiteOf stuckOf
-p13-first-again = refl
-
-pub p13-taken : two (0 ∷ 1 ∷ []) ≡ accepted
-unfolding answerOf numberOf placeOf faultyOf ownedOf firstFrom inRangeOf startOf lostOf topsOf nextOf finiteOf stuckOf
-p13-taken = refl
 
 -- ---- "no stages, no frames and an empty order are all accepted"; with no stages any entry is refused
 abbrev pub none : ℕ → List ℕ → List ℕ

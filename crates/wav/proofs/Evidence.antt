@@ -17,6 +17,7 @@ use lib.Ieee.Fits.{down-pos}
 use lib.Ieee.Exact.{HasValue, round-exact}
 use lib.Ieee.Nearest.{closest, closest-same}
 use Rattle.rounding.proofs.Compare.{Tells, tells}
+use Rattle.wav.specs.Whole.{NearestWhole}
 use Rattle.wav.specs.Sample.{inOf, stepsOf, heldOf, outOf}
 use Rattle.wav.specs.Bytes.{twoAt, signedOf, codeOf}
 use Rattle.wav.specs.Frames.{sampleAt, samplesOf, lowOf, highOf, bytesOf}
@@ -25,13 +26,6 @@ use Rattle.wav.proofs.Steps.{value-steps, value-sign}
 use Rattle.wav.proofs.Signed as sg
 
 -- ---- nearest
-
--- the whole number r is at most a half away from a / b, and is even where it is a half away
-pub record NearestWhole (a b r : ℕ) : Type 0 where
-  pub below : r * b * 2 ≤ a * 2 + b
-  pub above : a * 2 ≤ r * b * 2 + b
-  pub even-below : r * b * 2 ≡ a * 2 + b → r % 2 ≡ 0
-  pub even-above : a * 2 ≡ r * b * 2 + b → r % 2 ≡ 0
 
 -- with a = p + t and p = w * b: the next number times b is p + b
 module _ (a b w p t : ℕ) (f : p ≡ w * b) (e : p + t ≡ a) (l : t < b) where

@@ -1,14 +1,10 @@
 -- Each public function's promise admits one outcome: the answer, and what is left of what was lent. Assumes nothing.
-use mathlib.Core.Path.{_≡_, sym, _∙_}
+use mathlib.Core.Path.{sym, _∙_}
 use denote.Ref.{now}
-use Rattle.float.proofs.Outcome.{Single}
+use Rattle.float.proofs.Outcome.{Single, SingleLent}
 use Rattle.wav.proofs.header as header
 use Rattle.wav.proofs.sample as sample
 use Rattle.wav.proofs.frames as frames
-
--- as `Single`, where something is lent by `&mut`: `left` reads what that holds at exit
-abbrev SingleLent : {L D : Type 0} {A B C : L → Type 0} → ((κs : L) → A κs → B κs → C κs → Type 0) → ((κs : L) → C κs → D) → Type 0
-SingleLent {L} {D} {A} {B} {C} Post left = (κs : L) (a : A κs) (r r' : B κs) (s s' : C κs) → Post κs a r s → Post κs a r' s' → (r ≡ r') × (left κs s ≡ left κs s')
 
 pub number-single : Single header.number.Reads.Post
 number-single κs a r r' s s' p q = p ∙ sym q

@@ -1,3 +1,4 @@
+pub mod Whole
 pub mod Sample
 pub mod Bytes
 pub mod Frames
