@@ -9,6 +9,7 @@
 mod case;
 mod common;
 mod drawn;
+mod expected;
 mod face;
 mod fed;
 mod inputs;

@@ -110,7 +110,7 @@ impl Stage {
     }
 
     // How many positions each of its lines has: a reverb's are floats, a delay's frames.
-    fn lines(&self, rate: u32) -> Vec<usize> {
+    pub fn lines(&self, rate: u32) -> Vec<usize> {
         match *self {
             Stage::Reverb { .. } => reverb_lines(rate).to_vec(),
             Stage::Delay { frames, .. } => vec![frames as usize],
