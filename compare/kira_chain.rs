@@ -15,7 +15,7 @@ use std::time::Duration;
 // of the memories, at each list place
 pub const FLOATS: usize = 20;
 
-enum Kept {
+pub enum Kept {
     Alone(Box<dyn Remembering>),
     Reverb(OpenReverb),
     Delay(OpenDelay),
@@ -75,7 +75,7 @@ pub fn delay_time(frames: u32, rate: u32) -> Duration {
     Duration::from_secs_f64((frames as f64 + 0.5) / rate as f64)
 }
 
-fn kept(stage: Listed, rate: u32, feedback_effects: Vec<Box<dyn Effect>>) -> Kept {
+pub fn kept(stage: Listed, rate: u32, feedback_effects: Vec<Box<dyn Effect>>) -> Kept {
     match stage {
         Listed::Alone(stage) => Kept::Alone(effect_of(stage)),
         Listed::Reverb {
