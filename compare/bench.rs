@@ -57,8 +57,10 @@ const PLACES: usize = 16;
 
 // ---- time
 
-// The least of so many stretches counts: what else the machine does can only make one longer.
-const STRETCHES: usize = 100;
+// Each work is timed in so many rounds of so many stretches, and the least of its stretches counts: what
+// else the machine does can only make one longer, and seldom does so in all rounds.
+const ROUNDS: usize = 20;
+const STRETCHES: usize = 6;
 const STRETCH: Duration = Duration::from_millis(1);
 
 // Nanoseconds of the work, done so many times.
@@ -78,15 +80,58 @@ fn times_of(work: &mut dyn FnMut()) -> usize {
     times
 }
 
-// Nanoseconds of each, by turns.
-fn measure(ours: &mut dyn FnMut(), kira: &mut dyn FnMut()) -> [f64; 2] {
-    let times = [times_of(ours), times_of(kira)];
-    let mut least = [f64::INFINITY; 2];
-    for _ in 0..STRETCHES {
-        least[0] = least[0].min(stretch(times[0], ours) / times[0] as f64);
-        least[1] = least[1].min(stretch(times[1], kira) / times[1] as f64);
+struct Timed {
+    work: Box<dyn FnMut()>,
+    times: usize,
+    least: f64,
+}
+
+impl Timed {
+    fn new(mut work: impl FnMut() + 'static) -> Self {
+        Self {
+            times: times_of(&mut work),
+            work: Box::new(work),
+            least: f64::INFINITY,
+        }
     }
-    least
+
+    fn stretch(&mut self) {
+        let span = stretch(self.times, &mut self.work) / self.times as f64;
+        self.least = self.least.min(span);
+    }
+}
+
+// A row of a table: ours, and what it is held to.
+struct Row {
+    name: String,
+    sides: [Timed; 2],
+    // what a time is divided by
+    units: usize,
+    // whether both did the same
+    agrees: bool,
+}
+
+impl Row {
+    fn new(name: &str, units: usize, sides: [Timed; 2]) -> Self {
+        Self {
+            name: name.to_string(),
+            sides,
+            units,
+            agrees: true,
+        }
+    }
+
+    // By turns.
+    fn round(&mut self) {
+        for _ in 0..STRETCHES {
+            self.sides.iter_mut().for_each(Timed::stretch);
+        }
+    }
+
+    // Nanoseconds a unit.
+    fn side(&self, side: usize) -> f64 {
+        self.sides[side].least / self.units as f64
+    }
 }
 
 // ---- a chain on both sides
@@ -179,51 +224,69 @@ impl Kira {
     }
 }
 
-// ---- in print
-
-// What was measured.
-#[derive(Default)]
-struct Bench {
-    chains: usize,
-    // those that did not give kira's bits, so that the two sides did not do the same work
-    differing: usize,
+// Do both sides give the same bits?
+fn agree(ours: &mut Ours, kira: &mut Kira) -> bool {
+    (0..RATE as usize / (kira.frames.len() + 1)).all(|_| {
+        ours.render();
+        kira.process();
+        let mut pairs = ours.held.samples.chunks_exact(2).zip(&kira.frames);
+        pairs.all(|(pair, frame)| {
+            [pair[0], pair[1]].map(bits32) == [frame.left, frame.right].map(bits32)
+        })
+    })
 }
 
-impl Bench {
-    fn hold(&mut self, ours: &mut Ours, kira: &mut Kira) {
-        self.chains += 1;
-        for _ in 0..RATE as usize / (kira.frames.len() + 1) {
-            ours.render();
-            kira.process();
-            let mut pairs = ours.held.samples.chunks_exact(2).zip(&kira.frames);
-            if pairs.any(|(pair, frame)| {
-                [pair[0], pair[1]].map(bits32) != [frame.left, frame.right].map(bits32)
-            }) {
-                self.differing += 1;
-                return;
-            }
+// A chain on blocks of so many frames; of none, a call is the unit.
+fn row(name: &str, stages: &[Listed], block: usize) -> Row {
+    let (mut ours, mut kira) = (Ours::new(stages, block), Kira::new(stages, block));
+    let agrees = agree(&mut ours, &mut kira);
+    let sides = [
+        Timed::new(move || ours.render()),
+        Timed::new(move || kira.process()),
+    ];
+    Row {
+        agrees,
+        ..Row::new(name, block.max(1), sides)
+    }
+}
+
+// ---- in print
+
+struct Table {
+    title: String,
+    heads: [&'static str; 3],
+    rows: Vec<Row>,
+    // whether the rows are of 0, 1, 2 .. stages
+    counts: bool,
+}
+
+impl Table {
+    fn new(title: &str, first: &'static str, rows: Vec<Row>) -> Self {
+        Self {
+            title: title.to_string(),
+            heads: [first, "ours", "kira"],
+            rows,
+            counts: false,
         }
     }
 
-    // Nanoseconds a block.
-    fn measure(&mut self, stages: &[Listed], block: usize) -> [f64; 2] {
-        let (mut ours, mut kira) = (Ours::new(stages, block), Kira::new(stages, block));
-        self.hold(&mut ours, &mut kira);
-        measure(&mut || ours.render(), &mut || kira.process())
+    fn print(&self) {
+        let [first, a, b] = self.heads;
+        println!("\n## {}\n", self.title);
+        println!("| {first} | {a} | {b} | {a} / {b} |\n|---|---:|---:|---:|");
+        for row in &self.rows {
+            let (a, b) = (row.side(0), row.side(1));
+            let numbers = [a, b, a / b].map(short).join(" | ");
+            println!("| {} | {numbers} |", row.name);
+        }
+        if self.counts {
+            println!();
+            for side in 0..2 {
+                let points: Vec<f64> = self.rows.iter().map(|row| row.side(side)).collect();
+                print_line(self.heads[1 + side], &points);
+            }
+        }
     }
-
-    // Nanoseconds a frame, in a row.
-    fn row(&mut self, name: &str, stages: &[Listed], block: usize) -> [f64; 2] {
-        let spans = self.measure(stages, block);
-        let [ours, kira] = spans.map(|span| span / block as f64);
-        print_row(name, ours, kira);
-        [ours, kira]
-    }
-}
-
-fn print_head(title: &str, first: &str, theirs: &str) {
-    println!("\n## {title}\n");
-    println!("| {first} | ours | {theirs} | ours / {theirs} |\n|---|---:|---:|---:|");
 }
 
 fn short(x: f64) -> String {
@@ -235,16 +298,6 @@ fn short(x: f64) -> String {
         0
     };
     format!("{x:.digits$}")
-}
-
-fn print_row(name: &str, ours: f64, kira: f64) {
-    let ratio = ours / kira;
-    println!(
-        "| {name} | {} | {} | {} |",
-        short(ours),
-        short(kira),
-        short(ratio)
-    );
 }
 
 // The straight line nearest to the points (0, y), (1, y) .., and the point that is farthest off it.
@@ -373,161 +426,168 @@ fn typical() -> [(&'static str, Vec<Listed>); 3] {
 
 // ---- what is measured
 
-fn bench_kinds(bench: &mut Bench) {
-    print_head("Each kind alone, nanoseconds a frame", "stage", "kira");
-    bench.row("none", &[], BLOCK);
-    for (name, stage) in kinds() {
-        bench.row(name, &[stage], BLOCK);
-    }
+fn kinds_alone() -> Table {
+    let none = row("none", &[], BLOCK);
+    let rows = kinds().map(|(name, stage)| row(name, &[stage], BLOCK));
+    let rows = [none].into_iter().chain(rows).collect();
+    Table::new("Each kind alone, nanoseconds a frame", "stage", rows)
 }
 
-fn bench_typical(bench: &mut Bench) {
-    print_head("Typical chains, nanoseconds a frame", "chain", "kira");
-    for (name, stages) in typical() {
-        bench.row(name, &stages, BLOCK);
-    }
+fn typical_chains() -> Table {
+    let rows = typical().map(|(name, stages)| row(name, &stages, BLOCK));
+    Table::new("Typical chains, nanoseconds a frame", "chain", rows.into())
 }
 
 // Each frame through all top stages before the next, by an order.
-fn bench_orders() {
-    println!("\n## By an order, nanoseconds a frame\n");
-    println!("| chain | `render` | `run` |\n|---|---:|---:|");
-    for (name, stages) in typical() {
+fn by_an_order() -> Table {
+    let rows = typical().map(|(name, stages)| {
         let tops = effects_of(&stages).len();
         let order: Vec<usize> = (0..BLOCK).flat_map(|_| 0..tops).collect();
         let (mut rendered, mut ran) = (Ours::new(&stages, BLOCK), Ours::new(&stages, BLOCK));
-        let spans = measure(&mut || rendered.render(), &mut || ran.run(&order));
-        let [render, run] = spans.map(|span| short(span / BLOCK as f64));
-        println!("| {name} | {render} | {run} |");
+        let sides = [
+            Timed::new(move || rendered.render()),
+            Timed::new(move || ran.run(&order)),
+        ];
+        Row::new(name, BLOCK, sides)
+    });
+    Table {
+        heads: ["chain", "`render`", "`run`"],
+        ..Table::new("By an order, nanoseconds a frame", "chain", rows.into())
     }
 }
 
-fn bench_stages(bench: &mut Bench) {
-    let on_top = |stage: Listed| move |count| vec![stage; count];
-    let in_a_delay = |count| {
-        let owned = vec![volume(); count];
-        [vec![delay(1_000, count)], owned].concat()
-    };
-    bench_counts(bench, "volumes", 16, &on_top(volume()));
-    bench_counts(bench, "bells", 16, &on_top(eq(0)));
-    bench_counts(bench, "volumes in a delay", 15, &in_a_delay);
+fn so_many(name: &'static str, most: usize, list: impl Fn(usize) -> Vec<Listed>) -> Table {
+    let rows = (0..=most).map(|count| row(&count.to_string(), &list(count), BLOCK));
+    let title = format!("So many {name}, nanoseconds a frame");
+    Table {
+        counts: true,
+        ..Table::new(&title, name, rows.collect())
+    }
 }
 
-fn bench_counts(bench: &mut Bench, name: &str, most: usize, list: &dyn Fn(usize) -> Vec<Listed>) {
-    print_head(
-        &format!("So many {name}, nanoseconds a frame"),
-        name,
-        "kira",
-    );
-    let counts = 0..=most;
-    let rows = counts.map(|count| bench.row(&count.to_string(), &list(count), BLOCK));
-    let rows: Vec<[f64; 2]> = rows.collect();
-    println!();
-    for (side, name) in ["ours", "kira"].into_iter().enumerate() {
-        let points: Vec<f64> = rows.iter().map(|row| row[side]).collect();
-        print_line(name, &points);
-    }
+fn in_a_delay(count: usize) -> Vec<Listed> {
+    let mut stages = vec![delay(1_000, count)];
+    stages.extend(vec![volume(); count]);
+    stages
 }
 
 // The same four stages, more and more of them in each other.
-fn bench_nesting(bench: &mut Bench) {
-    let title = "Three delays and a filter in each other, nanoseconds a frame";
-    print_head(title, "depth", "kira");
-    for depth in 0..=3 {
+fn nesting() -> Table {
+    let rows = (0..=3).map(|depth| {
         let owned = |k: usize| if k + depth < 3 { 0 } else { 3 - k };
         let line = |k| delay(1_000, owned(k));
         let stages = [line(0), line(1), line(2), filter(0, 0.5)];
-        bench.row(&depth.to_string(), &stages, BLOCK);
-    }
+        row(&depth.to_string(), &stages, BLOCK)
+    });
+    let title = "Three delays and a filter in each other, nanoseconds a frame";
+    Table::new(title, "depth", rows.collect())
 }
 
-fn bench_blocks(bench: &mut Bench) {
-    let volume = [("volume", vec![volume()])];
-    for (name, stages) in volume.into_iter().chain(typical()) {
-        let title = format!("Blocks: {name}, nanoseconds a frame");
-        print_head(&title, "frames a block", "kira");
-        for block in [1, 64, 512, 4096] {
-            bench.row(&block.to_string(), &stages, block);
-        }
-    }
+fn blocks(name: &str, stages: &[Listed]) -> Table {
+    let rows = [1, 64, 512, 4096].map(|block| row(&block.to_string(), stages, block));
+    let title = format!("Blocks: {name}, nanoseconds a frame");
+    Table::new(&title, "frames a block", rows.into())
 }
 
 // What a call costs whatever its block.
-fn bench_calls(bench: &mut Bench) {
-    print_head("A call with no frame, nanoseconds a call", "chain", "kira");
-    let volumes =
-        [0, 1, 2, 4, 8, 16].map(|count| (format!("volumes: {count}"), vec![volume(); count]));
-    let typical = typical().map(|(name, stages)| (name.to_string(), stages));
-    for (name, stages) in volumes.into_iter().chain(typical) {
-        let [ours, kira] = bench.measure(&stages, 0);
-        print_row(&name, ours, kira);
-    }
+fn calls() -> Table {
+    let volumes = [0, 1, 2, 4, 8, 16];
+    let volumes = volumes.map(|count| row(&format!("volumes: {count}"), &vec![volume(); count], 0));
+    let typical = typical().map(|(name, stages)| row(name, &stages, 0));
+    let rows = volumes.into_iter().chain(typical).collect();
+    Table::new("A call with no frame, nanoseconds a call", "chain", rows)
+}
+
+// The same filter with a root fewer, since the root of 0 is told without working it out.
+fn mixes() -> Table {
+    let rows = [0.5, 1.0].map(|mix| row(&mix.to_string(), &[filter(0, mix)], BLOCK));
+    Table::new(
+        "A filter by its mix, nanoseconds a frame",
+        "mix",
+        rows.into(),
+    )
 }
 
 // An operation on each of these, beside the Rust's.
-fn bench_each<T: Copy>(name: &str, given: &[T], ours: impl Fn(T), rust: impl Fn(T)) {
-    let spans = measure(
-        &mut || given.iter().for_each(|&x| ours(black_box(x))),
-        &mut || given.iter().for_each(|&x| rust(black_box(x))),
-    );
-    let [ours, rust] = spans.map(|span| span / given.len() as f64);
-    print_row(name, ours, rust);
+fn operation<T: Copy + 'static, U, V>(
+    name: &str,
+    given: &[T],
+    ours: impl Fn(T) -> U + 'static,
+    rust: impl Fn(T) -> V + 'static,
+) -> Row {
+    let (all, all_again) = (given.to_vec(), given.to_vec());
+    let each = move || all.iter().for_each(|&x| keep(ours(black_box(x))));
+    let each_again = move || all_again.iter().for_each(|&x| keep(rust(black_box(x))));
+    Row::new(
+        name,
+        given.len(),
+        [Timed::new(each), Timed::new(each_again)],
+    )
 }
 
 fn keep<T>(result: T) {
     black_box(result);
 }
 
-// In a chain a root is taken of the same number at every frame; numbers at random show what it costs
-// where the processor cannot foresee its digits.
-fn bench_operations() {
-    print_head("Single operations, nanoseconds each", "operation", "Rust");
-    let parts: Vec<f32> = noise(BLOCK).iter().map(|x| x + 0.5).collect();
-    let root = |x: f32| keep(sedhavil_sqrt_f32(x));
-    let root_f64 = |x: f64| keep(sedhavil_sqrt_f64(x));
-    let narrow = |x: f64| keep(sedhavil_as_f32(x));
-    let same = [0.5; BLOCK];
-    bench_each("root of 0.5 in f32", &same, root, |x| keep(x.sqrt()));
-    bench_each("root of f32s at random", &parts, root, |x| keep(x.sqrt()));
-    let same = [1.2589254117941673; BLOCK];
-    bench_each("root of 10^0.1 in f64", &same, root_f64, |x| keep(x.sqrt()));
-    bench_each("f64 to f32", &same, narrow, |x| keep(x as f32));
-    bench_each(
-        "amplitude of -1 dB",
-        &[-1; BLOCK],
-        |x| keep(sedhavil_amplitude(x)),
-        |x| keep(Decibels(x as f32).as_amplitude()),
-    );
+fn coefficients(name: &str, kind: u32) -> Row {
     let g = fed::tangent(1_000);
-    for (kind, name) in ["bell", "low shelf", "high shelf"].into_iter().enumerate() {
-        bench_each(
-            &format!("coefficients of a {name}"),
-            &[kind as u32; BLOCK],
-            |kind| keep(sedhavil_coefficients(kind, g, 0.7, 4)),
-            |kind| keep(kira_coefficients(kind, 1_000, 0.7, 4)),
-        );
-    }
+    operation(
+        name,
+        &[kind; BLOCK],
+        move |kind| sedhavil_coefficients(kind, g, 0.7, 4),
+        |kind| kira_coefficients(kind, 1_000, 0.7, 4),
+    )
 }
 
-// The same filter with a root fewer, since the root of 0 is told without working it out.
-fn bench_mixes(bench: &mut Bench) {
-    print_head("A filter by its mix, nanoseconds a frame", "mix", "kira");
-    for mix in [0.5, 1.0] {
-        bench.row(&mix.to_string(), &[filter(0, mix)], BLOCK);
+// In a chain a root is taken of the same number at every frame; numbers at random show what it costs
+// where the processor cannot foresee its digits.
+fn operations() -> Table {
+    let parts: Vec<f32> = noise(BLOCK).iter().map(|x| x + 0.5).collect();
+    let (half, tenth) = ([0.5; BLOCK], [1.2589254117941673; BLOCK]);
+    let root = |x: f32| sedhavil_sqrt_f32(x);
+    let root_f64 = |x: f64| sedhavil_sqrt_f64(x);
+    let narrow = |x: f64| sedhavil_as_f32(x);
+    let amplitude = |x: i32| sedhavil_amplitude(x);
+    let rows = vec![
+        operation("root of 0.5 in f32", &half, root, f32::sqrt),
+        operation("root of f32s at random", &parts, root, f32::sqrt),
+        operation("root of 10^0.1 in f64", &tenth, root_f64, f64::sqrt),
+        operation("f64 to f32", &tenth, narrow, |x| x as f32),
+        operation("amplitude of -1 dB", &[-1; BLOCK], amplitude, |x| {
+            Decibels(x as f32).as_amplitude()
+        }),
+        coefficients("coefficients of a bell", 0),
+        coefficients("coefficients of a low shelf", 1),
+        coefficients("coefficients of a high shelf", 2),
+    ];
+    Table {
+        heads: ["operation", "ours", "Rust"],
+        ..Table::new("Single operations, nanoseconds each", "operation", rows)
     }
 }
 
 fn main() {
-    let mut bench = Bench::default();
-    bench_kinds(&mut bench);
-    bench_typical(&mut bench);
-    bench_stages(&mut bench);
-    bench_nesting(&mut bench);
-    bench_blocks(&mut bench);
-    bench_calls(&mut bench);
-    bench_orders();
-    bench_mixes(&mut bench);
-    bench_operations();
-    let (chains, differing) = (bench.chains, bench.differing);
-    println!("\n{chains} chains; {differing} of them did not give kira's bits");
+    let mut tables = vec![
+        kinds_alone(),
+        typical_chains(),
+        by_an_order(),
+        so_many("volumes", 16, |count| vec![volume(); count]),
+        so_many("bells", 16, |count| vec![eq(0); count]),
+        so_many("volumes in a delay", 15, in_a_delay),
+        nesting(),
+        blocks("volume", &[volume()]),
+    ];
+    tables.extend(typical().map(|(name, stages)| blocks(name, &stages)));
+    tables.extend([calls(), mixes(), operations()]);
+    for _ in 0..ROUNDS {
+        let rows = tables.iter_mut().flat_map(|table| &mut table.rows);
+        rows.for_each(Row::round);
+    }
+    tables.iter().for_each(Table::print);
+    let rows = tables.iter().flat_map(|table| &table.rows);
+    let differing: Vec<&str> = rows
+        .filter(|row| !row.agrees)
+        .map(|row| &*row.name)
+        .collect();
+    println!("\nrows that did not give kira's bits: {differing:?}");
 }
