@@ -17,7 +17,7 @@ use Rattle.stage.specs.declared.kind.Stage.{Stage}
 use Rattle.stage.specs.declared.kind.Stage.the-variants.{VolumeControl, PanningControl, Distortion, Filter, EqFilter, Reverb, Delay}
 use Rattle.stage.specs.Kind.{stageAt}
 use Rattle.step.specs.Memory.{remember}
-use Rattle.step.specs.Step.{filterStage, eqStage, delayStage, stageOf, inTurn, spanOf, stepOf, placeOf}
+use Rattle.step.specs.Step.{filterStage, eqStage, delayStage, stageStep, inTurn, spanOf, stepOf, processAt}
 use Rattle.step.proofs.Levels.{volume-is, panning-is, distortion-is, filter-is, eq-is, reverb-is, delay-is, step-is, span-zero, span-shallow, span-is, place-is}
 
 abbrev pub Keeps : (Ran → Ran) → Type 0
@@ -42,7 +42,7 @@ module _ (inner : Ran → Ran) (keeps : Keeps inner) where
   unfolding delayStage front
   delay-keeps frames feedback mix r = joined-keeps (2 * frames) 24 20 _ _ (r .held) record { store = frame-in-keeps _ _ _; positions = simp length-set; floats = refl } (keeps _)
 
-  pub stage-keeps : (rate : ℕ) (s : Stage) → Keeps (stageOf rate inner s)
+  pub stage-keeps : (rate : ℕ) (s : Stage) → Keeps (stageStep rate inner s)
   stage-keeps rate (VolumeControl volume) r = rw volume-is (same-refl (r .held))
   stage-keeps rate (PanningControl panning) r = rw panning-is (same-refl (r .held))
   stage-keeps rate (Distortion kind drive mix) r = rw distortion-is (same-refl (r .held))
@@ -75,5 +75,5 @@ module _ (rate : ℕ) (l : List Stage) (starts : List ℕ) where
     pub step-keeps : (n left : ℕ) → Keeps (stepOf n left rate l starts i e)
     step-keeps n left r = rw step-is (stage-keeps _ (span-keeps n left (i + 1) e) rate (stageAt l i) r)
 
-    pub place-keeps : Keeps (placeOf rate l starts i e)
+    pub place-keeps : Keeps (processAt rate l starts i e)
     place-keeps r = rw place-is (cond-keeps (ltb i e && leb e 16) _ _ (r .held) (step-keeps 16 3 r) (same-refl (r .held)))

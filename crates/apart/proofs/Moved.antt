@@ -13,9 +13,9 @@ use borrow.Author.Tests.{lt-ltb, le-ltb, leb-true}
 use Rattle.line.specs.AllPass.{passedOf}
 use Rattle.line.specs.Comb.{combedOf}
 use Rattle.line.specs.Held.{Held, front, back, joined, Ran}
-use Rattle.line.specs.Position.{nextOf}
+use Rattle.line.specs.Position.{nextPosition}
 use Rattle.reverb.specs.Reverb.{Heard, combOf, passOf, passesOf, combsOf, sideOf, reverbed, reverbOf}
-use Rattle.reverb.specs.Tuning.{combTunings, allPassTunings, tunings, lineOf, floatsOf, lengthsOf, reverbLines, reverbFloats}
+use Rattle.reverb.specs.Tuning.{combTunings, allPassTunings, tunings, lineOf, tuningFloats, lengthsOf, reverbLines, reverbFloats}
 use Rattle.reverb.proofs.Keeps.{side-keeps}
 use Rattle.reverb.proofs.Levels.{mono, both, fits, side-is, reverbed-is, reverb-is}
 use Rattle.reverb.proofs.Tunings.{side-floats-are, reverb-floats-are, lengths-length}
@@ -29,8 +29,8 @@ OnLines lines ps = (k : ℕ) → k < length lines → getD ps k 0 < getD lines k
 abbrev pub Positive : List ℕ → Type 0
 Positive lines = (k : ℕ) → k < length lines → 0 < getD lines k 0
 
-pub next-on : (at n : ℕ) → 0 < n → nextOf at n < n
-unfolding nextOf
+pub next-on : (at n : ℕ) → 0 < n → nextPosition at n < n
+unfolding nextPosition
 next-on at n h = go (decLt (at + 1) n)
   where
     go : Dec (at + 1 < n) → cond (ltb (at + 1) n) (at + 1) 0 < n
@@ -38,7 +38,7 @@ next-on at n h = go (decLt (at + 1) n)
     go (no g) = let k : n ≤ at + 1 = omega arith in rw (le-ltb (at + 1) n k) h
 
 -- the line that is lent is n long
-next-taken : {A : Type 0} (at n : ℕ) (store : List A) → n ≤ length store → 0 < n → nextOf at (length (take n store)) < n
+next-taken : {A : Type 0} (at n : ℕ) (store : List A) → n ≤ length store → 0 < n → nextPosition at (length (take n store)) < n
 next-taken at n store h g = rw (length-take-le n store h) (next-on at n g)
 
 -- ---- the positions of some lines are on them, and those after them are as they were
@@ -98,8 +98,8 @@ left-over : {A : Type 0} (n m : ℕ) (xs : List A) → n + m ≤ length xs → m
 left-over n m xs h = omega (arith, length-drop n xs)
 
 module _ (spread rate : ℕ) where
-  passes-move : (ts : List ℕ) → Positive (lengthsOf spread rate ts) → Moves (lengthsOf spread rate ts) (floatsOf spread rate ts) (passesOf spread rate ts)
-  unfolding passesOf passOf passedOf front back joined lengthsOf floatsOf
+  passes-move : (ts : List ℕ) → Positive (lengthsOf spread rate ts) → Moves (lengthsOf spread rate ts) (tuningFloats spread rate ts) (passesOf spread rate ts)
+  unfolding passesOf passOf passedOf front back joined lengthsOf tuningFloats
   passes-move [] pos x h s p = moved-none (h .positions)
   passes-move (t ∷ ts) pos x h s p =
       moved-more (lineOf spread rate t) (lengthsOf spread rate ts) (h .positions) _ _ (omega arith)
@@ -107,8 +107,8 @@ module _ (spread rate : ℕ) where
       (passes-move ts (λ k g. pos (suc k) (omega arith)) _ _ (left-over (lineOf spread rate t) _ (h .store) s) (left-over 1 _ (h .positions) (omega arith)))
 
   module _ (feedback damping x : Float) (next : Float → Held → Heard) (lines : List ℕ) (size : ℕ) (moves : Moves lines size next) where
-    combs-move : (ts : List ℕ) → Positive (lengthsOf spread rate ts) → Moves (lengthsOf spread rate ts ++ lines) (floatsOf spread rate ts + size) (combsOf spread rate feedback damping x next ts)
-    unfolding combsOf combOf combedOf front back joined lengthsOf floatsOf
+    combs-move : (ts : List ℕ) → Positive (lengthsOf spread rate ts) → Moves (lengthsOf spread rate ts ++ lines) (tuningFloats spread rate ts + size) (combsOf spread rate feedback damping x next ts)
+    unfolding combsOf combOf combedOf front back joined lengthsOf tuningFloats
     combs-move [] pos sum h s p = moves sum h (omega arith) p
     combs-move (t ∷ ts) pos sum h s p =
         moved-more (lineOf spread rate t) (lengthsOf spread rate ts ++ lines) (h .positions) _ _ (omega arith)
@@ -120,13 +120,13 @@ module _ (spread rate : ℕ) where
   unfolding lengthsOf
   lengths-split = refl
 
-  side-moves : (feedback damping : Float) → Positive (lengthsOf spread rate tunings) → Moves (lengthsOf spread rate tunings) (floatsOf spread rate tunings) (sideOf spread rate feedback damping)
+  side-moves : (feedback damping : Float) → Positive (lengthsOf spread rate tunings) → Moves (lengthsOf spread rate tunings) (tuningFloats spread rate tunings) (sideOf spread rate feedback damping)
   side-moves feedback damping pos x h s p =
       let c = lengthsOf spread rate combTunings in
       let a = lengthsOf spread rate allPassTunings in
       let pos' : Positive (c ++ a) = rw lengths-split at pos in
       rw (side-is, lengths-split)
-      (combs-move feedback damping x _ a (floatsOf spread rate allPassTunings) (passes-move allPassTunings (positive-right c a pos')) combTunings (positive-left c a pos') _ h
+      (combs-move feedback damping x _ a (tuningFloats spread rate allPassTunings) (passes-move allPassTunings (positive-right c a pos')) combTunings (positive-left c a pos') _ h
       (omega (arith, side-floats-are spread rate)) (rw lengths-split at p))
 
 -- ---- a reverb
@@ -142,10 +142,10 @@ module _ (rate : ℕ) (feedback damping width mix : Float) (r : Ran) where
   reverbed-moves pos s p =
       let x = mono (r .frame) in
       let ps = r .held .positions in
-      let n = floatsOf 0 rate tunings in
+      let n = tuningFloats 0 rate tunings in
       let l-12 : length (lengthsOf 0 rate tunings) ≡ 12 = lengths-length 0 rate tunings in
       let r-12 : length (lengthsOf 23 rate tunings) ≡ 12 = lengths-length 23 rate tunings in
-      let all : reverbFloats rate ≡ n + floatsOf 23 rate tunings = reverb-floats-are rate in
+      let all : reverbFloats rate ≡ n + tuningFloats 23 rate tunings = reverb-floats-are rate in
       let taken : length (take 12 ps) ≡ 12 = length-take-le 12 ps (omega arith) in
       let left = side-moves 0 rate feedback damping (positive-left (lengthsOf 0 rate tunings) _ pos) x (front n 12 8 (r .held)) (omega (arith, length-take-le n (r .held .store) (omega arith))) (omega arith) in
       let right = side-moves 23 rate feedback damping (positive-right (lengthsOf 0 rate tunings) _ pos) x (back n 12 8 (r .held)) (left-over n _ (r .held .store) (omega arith)) (left-over 12 _ ps (omega arith)) in

@@ -16,16 +16,16 @@ use Rattle.order.specs.Stretch.{part, splice}
 use Rattle.order.proofs.Stretches.{length-part}
 use Rattle.line.specs.Frames.{frameAt}
 use Rattle.line.specs.Held.{front, back, joined, Ran, ran}
-use Rattle.line.specs.Position as Position
+use Rattle.line.specs.Position.{nextPosition}
 use Rattle.reverb.proofs.Tunings.{lines-length}
 use Rattle.stage.specs.declared.kind.Stage.{Stage}
 use Rattle.stage.specs.declared.kind.Stage.the-variants.{VolumeControl, PanningControl, Distortion, Filter, EqFilter, Reverb, Delay}
-use Rattle.stage.specs.Kind.{stageAt, nextOf}
+use Rattle.stage.specs.Kind.{stageAt, nextPlace}
 use Rattle.stage.specs.Layout.{sizeOf, frontPlaces, backPlaces}
 use Rattle.stage.specs.Lines.{linesOf, lostOf}
 use Rattle.stage.proofs.Next.{next-le, next-more}
 use Rattle.stage.proofs.Firsts.{some-none, none-clear}
-use Rattle.step.specs.Step.{filterStage, eqStage, delayStage, stageOf, inTurn, spanOf, stepOf, placeOf}
+use Rattle.step.specs.Step.{filterStage, eqStage, delayStage, stageStep, inTurn, spanOf, stepOf, processAt}
 use Rattle.step.proofs.Levels.{volume-is, panning-is, distortion-is, filter-is, eq-is, reverb-is, delay-is, step-is, span-zero, span-shallow, span-is}
 use Rattle.step.proofs.Steps.{place-inside, place-empty, place-past}
 use Rattle.apart.proofs.Keeps.{Keeps, step-keeps, place-keeps}
@@ -124,13 +124,13 @@ module _ (rate : ℕ) (l : List Stage) where
           let one : i + 1 - i ≡ 1 = omega arith in
           let taken : length (take 24 ps) ≡ 24 = length-take-le 24 ps (omega arith) in
           let at = getD (take 24 ps) 0 0 in
-          let v = Position.nextOf at frames in
+          let v = nextPosition at frames in
           let rest = ran (frameAt at (take (2 * frames) (r .held .store))) (back (2 * frames) 24 20 (r .held)) in
           good-join i (i + 1) e (set (take 24 ps) 0 v) (inner rest .held .positions) (omega arith) (length-set (take 24 ps) 0 v ∙ taken ∙ omega arith)
           (delay-own frames feedback mix owned q (take 24 ps) v (omega arith) (next-on at frames some))
           (stays rest (omega (arith, length-drop 24 ps)) (rw one at (good-back i (i + 1) e ps (omega arith) g)))
 
-      stage-stays : (s : Stage) → stageAt l i ≡ s → Stays i e (stageOf rate inner s)
+      stage-stays : (s : Stage) → stageAt l i ≡ s → Stays i e (stageStep rate inner s)
       unfolding filterStage eqStage linesOf
       stage-stays (VolumeControl volume) q r n g = rw volume-is g
       stage-stays (PanningControl panning) q r n g = rw panning-is g
@@ -159,10 +159,10 @@ module _ (rate : ℕ) (l : List Stage) where
     span-turn : (n left i e : ℕ) → ((m : ℕ) → Stays (i + 1) m (spanOf n left rate l starts (i + 1) m)) → ((m : ℕ) → Stays m e (spanOf n (suc left) rate l starts m e)) → Stays i e (spanOf (suc n) (suc left) rate l starts i e)
     span-turn n left i e own others r k g = rw span-is (go (decLt i e))
       where
-        go : Dec (i < e) → Good rate l i e (cond (ltb i e) (inTurn (sizeOf starts i (nextOf (stageAt l i) i e)) (nextOf (stageAt l i) i e - i) (stepOf n left rate l starts i (nextOf (stageAt l i) i e)) (spanOf n (suc left) rate l starts (nextOf (stageAt l i) i e) e) r) r .held .positions)
+        go : Dec (i < e) → Good rate l i e (cond (ltb i e) (inTurn (sizeOf starts i (nextPlace (stageAt l i) i e)) (nextPlace (stageAt l i) i e - i) (stepOf n left rate l starts i (nextPlace (stageAt l i) i e)) (spanOf n (suc left) rate l starts (nextPlace (stageAt l i) i e) e) r) r .held .positions)
         go (no h) = let x : e ≤ i = omega arith in rw (le-ltb i e x) g
         go (yes h) =
-            let next = nextOf (stageAt l i) i e in
+            let next = nextPlace (stageAt l i) i e in
             let further : i < next = next-more (stageAt l i) i e h in
             rw (lt-ltb i e h)
             (turn-stays i next e _ _ _ (omega arith) (next-le (stageAt l i) i e) (step-keeps rate l starts i next n left)
@@ -178,10 +178,10 @@ module _ (rate : ℕ) (l : List Stage) where
       pub step-stays : (n left : ℕ) → i < e → Stays i e (stepOf n left rate l starts i e)
       step-stays n left h r k g = rw step-is (stage-stays i e h _ (span-stays n left (i + 1) e) (stageAt l i) refl r k g)
 
-      pub place-stays : Stays i e (placeOf rate l starts i e)
+      pub place-stays : Stays i e (processAt rate l starts i e)
       place-stays r k g = go (decLt i e) (decLt 16 e)
         where
-          go : Dec (i < e) → Dec (16 < e) → Good rate l i e (placeOf rate l starts i e r .held .positions)
+          go : Dec (i < e) → Dec (16 < e) → Good rate l i e (processAt rate l starts i e r .held .positions)
           go (no h) w = let x : e ≤ i = omega arith in rw (place-empty rate l starts i e r x) g
           go (yes h) (yes w) = rw (place-past rate l starts i e r w) g
           go (yes h) (no w) = let x : e ≤ 16 = omega arith in rw (place-inside rate l starts i e r h x) (step-stays 16 3 h r k g)
@@ -220,10 +220,10 @@ module _ (rate : ℕ) (l : List Stage) (c : ℕ) where
   -- no position is lost by a step of the stage at place i, whose own stages end at e
   pub lost-never : (starts : List ℕ) (i e : ℕ) (r : Ran) (ps : List ℕ) → i ≤ e → e ≤ c → 24 * c ≤ length ps → r .held .positions ≡ part (24 * i) (24 * (e - i)) ps
       → ((j : ℕ) → j < c → lostOf rate (stageAt l j) (part (24 * j) 24 ps) ≡ false)
-      → (j : ℕ) → j < c → lostOf rate (stageAt l j) (part (24 * j) 24 (splice (24 * i) (placeOf rate l starts i e r .held .positions) ps)) ≡ false
+      → (j : ℕ) → j < c → lostOf rate (stageAt l j) (part (24 * j) 24 (splice (24 * i) (processAt rate l starts i e r .held .positions) ps)) ≡ false
   lost-never starts i e r ps ie ec n q f =
       let size : length (r .held .positions) ≡ 24 * (e - i) = ap length q ∙ length-part (24 * i) (24 * (e - i)) ps (omega arith) in
       let all : Good rate l 0 c ps = lost-good ps f in
       let mine : Good rate l i e (r .held .positions) = rw q (good-part i e ps ec all) in
-      let after = placeOf rate l starts i e r .held .positions in
+      let after = processAt rate l starts i e r .held .positions in
       good-lost (splice (24 * i) after ps) (good-splice i e after ps ie ec n (place-keeps rate l starts i e r .positions ∙ size) (place-stays rate l starts i e r (omega arith) mine) all)

@@ -14,7 +14,7 @@ use Rattle.order.specs.Chain.{State, at, step, put, out}
 use Rattle.stage.specs.declared.kind.Stage.{Stage}
 use Rattle.stage.specs.Layout.{startOf, startsOf}
 use Rattle.stage.proofs.Starts.{starts-at, start-le}
-use Rattle.step.specs.Step.{placeOf}
+use Rattle.step.specs.Step.{processAt}
 use Rattle.refuse.specs.Tops.{topAt, topsRecord}
 use Rattle.refuse.proofs.TopStages.{places-at, top-past, top-le, tops-le-16}
 use Rattle.chain.specs.Chain.{stretch, replaced, frameOf, state, Ready, May, stepped}
@@ -134,7 +134,7 @@ module _ (rate : ℕ) (l : List Stage) (c k : ℕ) (xs st fl : List Float) (po p
 
   -- what top stage k makes of its next frame and of what it holds
   abbrev made : Ran
-  made = placeOf rate l (startsOf rate l) (topAt l c k) (topAt l c (suc k)) (ran (frameOf (part (d * 2) 2 xs)) (stretch rate l (topAt l c k) (topAt l c (suc k)) (holds st po fl)))
+  made = processAt rate l (startsOf rate l) (topAt l c k) (topAt l c (suc k)) (ran (frameOf (part (d * 2) 2 xs)) (stretch rate l (topAt l c k) (topAt l c (suc k)) (holds st po fl)))
 
   -- frame d, and what the code lends, made into y and m
   module _ (starts : List ℕ) (i e a b f : ℕ) (y : Frame) (m : Held) where
@@ -143,7 +143,7 @@ module _ (rate : ℕ) (l : List Stage) (c k : ℕ) (xs st fl : List Float) (po p
 
     pub advance-is : i ≡ topAt l c k → e ≡ topAt l c (suc k) → a ≡ startOf rate l i → b ≡ startOf rate l e → starts ≡ startsOf rate l → f ≡ d * 2
         → f + 2 ≤ length xs → length (m .store) ≡ b - a → length (m .positions) ≡ 24 * e - 24 * i → length (m .floats) ≡ 20 * e - 20 * i
-        → ran y m ≡ placeOf rate l starts i e lent-to
+        → ran y m ≡ processAt rate l starts i e lent-to
         → state (set (set xs f (y .left)) (f + 1) (y .right)) (mid a b (m .store) st) (mid (24 * i) (24 * e) (m .positions) po) (mid (20 * i) (20 * e) (m .floats) fl) (set pr k (d + 1))
         ≡ stepped rate l c k (state xs st po fl pr)
     unfolding step put out

@@ -10,7 +10,7 @@ use Rattle.order.specs.Order.{run, Accepted}
 use Rattle.order.specs.Chain.{Out, State, Chain, step, Ok, Inv}
 use Rattle.stage.specs.declared.kind.Stage.{Stage}
 use Rattle.stage.specs.Layout.{startOf, startsOf, placePositions, placeFloats}
-use Rattle.step.specs.Step.{placeOf}
+use Rattle.step.specs.Step.{processAt}
 use Rattle.refuse.specs.Tops.{topAt, topsOf}
 
 -- ---- what the stages from list place i up to e hold, out of what all hold; and all with `a` in its place
@@ -47,7 +47,7 @@ chainOf rate l c = record {
   n = topsOf l c;
   own = λ k h. stretch rate l (topAt l c k) (topAt l c (suc k)) h;
   put = λ k a h. replaced rate l (topAt l c k) a h;
-  make = λ k x a. outOf (placeOf rate l (startsOf rate l) (topAt l c k) (topAt l c (suc k)) (ran (frameOf x) a));
+  make = λ k x a. outOf (processAt rate l (startsOf rate l) (topAt l c k) (topAt l c (suc k)) (ran (frameOf x) a));
 }
 
 abbrev pub state : List Float → List Float → List ℕ → List Float → List ℕ → State Float Held

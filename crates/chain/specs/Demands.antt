@@ -60,15 +60,15 @@ module _ (rate : ℕ) (l : List Stage) (c : ℕ) where
   -- ---- Demand 3: "a step runs one stage on its next frame, never ahead of the stage before it"
 
   -- the places of top stage k and of the stages that it owns: from its own up to the next top stage's
-  abbrev pub placeOf : ℕ → ℕ
-  placeOf k = topAt l c k
+  abbrev pub processAt : ℕ → ℕ
+  processAt k = topAt l c k
 
   abbrev pub endOf : ℕ → ℕ
   endOf k = topAt l c (suc k)
 
   -- what they hold: their lines and memories
   abbrev pub heldBy : ℕ → State Float Held → Held
-  heldBy k s = stretch rate l (placeOf k) (endOf k) (s .held)
+  heldBy k s = stretch rate l (processAt k) (endOf k) (s .held)
 
   abbrev pub nextFrame : ℕ → State Float Held → List Float
   nextFrame k s = part (at s k * 2) 2 (s .samples)
@@ -79,9 +79,9 @@ module _ (rate : ℕ) (l : List Stage) (c : ℕ) where
     pub samples : Outside (at s k * 2) (suc (at s k) * 2) (s .samples) (z .samples)
     -- so are the lines and memories of stage k and of the stages that it owns; all others, and "floats past the last line", do not change
     pub held : heldBy k z ≡ out (chainOf rate l c) k s .held
-    pub store : Outside (startOf rate l (placeOf k)) (startOf rate l (endOf k)) (s .held .store) (z .held .store)
-    pub positions : Outside (placePositions * placeOf k) (placePositions * endOf k) (s .held .positions) (z .held .positions)
-    pub floats : Outside (placeFloats * placeOf k) (placeFloats * endOf k) (s .held .floats) (z .held .floats)
+    pub store : Outside (startOf rate l (processAt k)) (startOf rate l (endOf k)) (s .held .store) (z .held .store)
+    pub positions : Outside (placePositions * processAt k) (placePositions * endOf k) (s .held .positions) (z .held .positions)
+    pub floats : Outside (placeFloats * processAt k) (placeFloats * endOf k) (s .held .floats) (z .held .floats)
     -- its progress is one more, and every other as it was
     pub moved : at z k ≡ suc (at s k)
     pub others : (j : ℕ) → j ≢ k → at z j ≡ at s j

@@ -10,17 +10,17 @@ use Rattle.compare_face.specs.declared.effects.Answer.{Answer}
 use Rattle.compare_face.specs.declared.effects.Three.{Three}
 use Rattle.compare_face.specs.declared.effects.Six.{Six}
 
-abbrev pub frameIn : Pair → Frame
-frameIn p = record { left = p .left; right = p .right }
+abbrev pub pairIn : Pair → Frame
+pairIn p = record { left = p .left; right = p .right }
 
 abbrev pub pairOut : Frame → Pair
 pairOut f = record { left = f .left; right = f .right }
 
 abbrev pub integratorsIn : Memory → Integrators
-integratorsIn m = record { ic1eq = frameIn (m .ic1eq); ic2eq = frameIn (m .ic2eq) }
+integratorsIn m = record { ic1eq = pairIn (m .ic1eq); ic2eq = pairIn (m .ic2eq) }
 
-abbrev pub answerOut : Filtered → Answer
-answerOut f =
+abbrev pub processedOut : Filtered → Answer
+processedOut f =
     let after = f .after in
     record { output = pairOut (f .output); after = record { ic1eq = pairOut (after .ic1eq); ic2eq = pairOut (after .ic2eq) } }
 

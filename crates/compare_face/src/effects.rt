@@ -8,7 +8,7 @@ ghost use Rattle.integrators.specs.Integrators.{weightsOf};
 ghost use Rattle.filters.specs.Filter.{filterOf};
 ghost use Rattle.filters.specs.EqFilter.{coefficientsOf, eqOf};
 ghost use Rattle.compare_face.specs.Codes.{kindAt, modeAt, eqKindAt};
-ghost use Rattle.compare_face.specs.Structs.{frameIn, pairOut, integratorsIn, answerOut, weightsOut, coefficientsOut};
+ghost use Rattle.compare_face.specs.Structs.{pairIn, pairOut, integratorsIn, processedOut, weightsOut, coefficientsOut};
 use effect::distortion::DistortionKind;
 use filters::eq_filter::Coefficients;
 use filters::eq_filter::EqFilterKind;
@@ -90,7 +90,7 @@ fn eq_kind_at(code: u32) -> EqFilterKind
 }
 
 fn frame_in(pair: Pair) -> Frame
-    ensures { λ r. ⌜ r ≡ frameIn pair ⌝ }
+    ensures { λ r. ⌜ r ≡ pairIn pair ⌝ }
 {
     Frame {
         left: pair.left,
@@ -123,7 +123,7 @@ fn integrators_in(memory: Memory) -> Integrators
 }
 
 fn answer_out(filtered: Filtered) -> Answer
-    ensures { λ r. ⌜ r ≡ answerOut filtered ⌝ }
+    ensures { λ r. ⌜ r ≡ processedOut filtered ⌝ }
 {
     Answer {
         output: Pair {
@@ -145,21 +145,21 @@ fn answer_out(filtered: Filtered) -> Answer
 
 #[no_mangle]
 pub extern "C" fn sedhavil_volume_control(input: Pair, volume: i32) -> Pair
-    ensures { λ r. ⌜ r ≡ pairOut (volumeOf volume (frameIn input)) ⌝ }
+    ensures { λ r. ⌜ r ≡ pairOut (volumeOf volume (pairIn input)) ⌝ }
 {
     pair_out(effect::volume_control::process(frame_in(input), volume))
 }
 
 #[no_mangle]
 pub extern "C" fn sedhavil_panning_control(input: Pair, panning: f32) -> Pair
-    ensures { λ r. ⌜ r ≡ pairOut (panningOf panning (frameIn input)) ⌝ }
+    ensures { λ r. ⌜ r ≡ pairOut (panningOf panning (pairIn input)) ⌝ }
 {
     pair_out(effect::panning_control::process(frame_in(input), panning))
 }
 
 #[no_mangle]
 pub extern "C" fn sedhavil_distortion(input: Pair, kind: u32, drive: i32, mix: f32) -> Pair
-    ensures { λ r. ⌜ r ≡ pairOut (distortionOf (kindAt kind) drive mix (frameIn input)) ⌝ }
+    ensures { λ r. ⌜ r ≡ pairOut (distortionOf (kindAt kind) drive mix (pairIn input)) ⌝ }
 {
     pair_out(effect::distortion::process(frame_in(input), kind_at(kind), drive, mix))
 }
@@ -173,7 +173,7 @@ pub extern "C" fn sedhavil_filter(
     resonance: f64,
     mix: f32,
 ) -> Answer
-    ensures { λ r. ⌜ r ≡ answerOut (filterOf (modeAt mode) g resonance mix (integratorsIn memory) (frameIn input)) ⌝ }
+    ensures { λ r. ⌜ r ≡ processedOut (filterOf (modeAt mode) g resonance mix (integratorsIn memory) (pairIn input)) ⌝ }
 {
     answer_out(filters::filter::process(
         frame_in(input),
@@ -194,7 +194,7 @@ pub extern "C" fn sedhavil_eq_filter(
     q: f64,
     gain: i32,
 ) -> Answer
-    ensures { λ r. ⌜ r ≡ answerOut (eqOf (eqKindAt kind) g q gain (integratorsIn memory) (frameIn input)) ⌝ }
+    ensures { λ r. ⌜ r ≡ processedOut (eqOf (eqKindAt kind) g q gain (integratorsIn memory) (pairIn input)) ⌝ }
 {
     answer_out(filters::eq_filter::process(
         frame_in(input),

@@ -13,18 +13,18 @@ use Rattle.frame.specs.Panning.{pannedOf, sqrt2}
 use Rattle.effect.specs.Distortion.{distortionOf}
 use Rattle.line.specs.Held.{front, back, joined}
 use Rattle.line.specs.Frames.{frameAt, frameIn}
-use Rattle.line.specs.Position as Position
+use Rattle.line.specs.Position.{nextPosition}
 use Rattle.line.specs.AllPass.{passedOf, passLineOf}
 use Rattle.line.specs.Comb.{storeOf, combedOf, combLineOf}
 use Rattle.reverb.specs.Tuning.{lengthOf}
 use Rattle.order.specs.Chain as Order
 use Rattle.order.specs.Finish.{finishing-from}
 use Rattle.stage.specs.First.{firstFrom}
-use Rattle.stage.specs.Kind.{ownedOf, nextOf}
+use Rattle.stage.specs.Kind.{ownedOf, nextPlace}
 use Rattle.stage.specs.Range.{inRangeOf}
 use Rattle.stage.specs.Layout.{startOf, startsOf, sizeOf}
 use Rattle.stage.specs.Lines.{lostOf}
-use Rattle.step.specs.Step as Step
+use Rattle.step.specs.Step.{processAt}
 use Rattle.answer.specs.Answer.{numberOf, placeOf, acceptedOf}
 use Rattle.refuse.specs.Shape.{faultyOf}
 use Rattle.refuse.specs.Tops.{topAt, topsOf}
@@ -33,5 +33,5 @@ use Rattle.chain.specs.Chain.{stretch, replaced}
 use Rattle.examples.specs.Rows.{RowsHold}
 
 pub rows-hold : RowsHold
-unfolding sqrtOf narrowOf amplitudeOf addOf mulOf divOf mixOf pannedOf sqrt2 distortionOf front back joined frameAt frameIn Position.nextOf passedOf passLineOf storeOf combedOf combLineOf lengthOf firstFrom ownedOf nextOf inRangeOf startOf startsOf sizeOf lostOf Step.placeOf numberOf placeOf acceptedOf faultyOf topsOf topAt stuckOf answerOf Order.out Order.put Order.step finishing-from stretch replaced absOf unitOf bothOf finiteOf literal add sub mul div neg lt le eq ofBits toBits round
+unfolding sqrtOf narrowOf amplitudeOf addOf mulOf divOf mixOf pannedOf sqrt2 distortionOf front back joined frameAt frameIn nextPosition passedOf passLineOf storeOf combedOf combLineOf lengthOf firstFrom ownedOf nextPlace inRangeOf startOf startsOf sizeOf lostOf processAt numberOf placeOf acceptedOf faultyOf topsOf topAt stuckOf answerOf Order.out Order.put Order.step finishing-from stretch replaced absOf unitOf bothOf finiteOf literal add sub mul div neg lt le eq ofBits toBits round
 rows-hold = (refl, (refl, (refl, (refl, (refl, (refl, (refl, (refl, (refl, (refl, (refl, (refl, (refl, (refl, (refl, (refl, tt))))))))))))))))

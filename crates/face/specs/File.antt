@@ -2,7 +2,7 @@
 use Prim.Native.Nat.{ℕ}
 use Rattle.wav.specs.declared.header.Header.{Header}
 use Rattle.wav.specs.declared.header.Header.the-variants.{Read, Names, Format, Rate, Size, Short}
-use Rattle.wav.specs.Header.{numberOf}
+use Rattle.wav.specs.Header.{headerNumber}
 use Rattle.face.specs.declared.file.WavHeader.{WavHeader}
 
 -- the rate and the data size of a header that is read; 0 of one that is not
@@ -14,15 +14,15 @@ rateOf Rate = 0
 rateOf Size = 0
 rateOf Short = 0
 
-unfoldable pub sizeOf : Header → ℕ
-sizeOf (Read rate size) = size
-sizeOf Names = 0
-sizeOf Format = 0
-sizeOf Rate = 0
-sizeOf Size = 0
-sizeOf Short = 0
+unfoldable pub dataSizeOf : Header → ℕ
+dataSizeOf (Read rate size) = size
+dataSizeOf Names = 0
+dataSizeOf Format = 0
+dataSizeOf Rate = 0
+dataSizeOf Size = 0
+dataSizeOf Short = 0
 
 -- document 01's number, and these
 unfoldable pub headerOut : Header → WavHeader
-unfolding rateOf sizeOf
-headerOut h = record { number = numberOf h; rate = rateOf h; size = sizeOf h }
+unfolding rateOf dataSizeOf
+headerOut h = record { number = headerNumber h; rate = rateOf h; size = dataSizeOf h }

@@ -1,7 +1,7 @@
 // The crate `wav` for C and Rust to link: the header with its answer in one struct, and blocks of frames.
 ghost use mathlib.Core.Path.{_≡_};
 ghost use Rattle.wav.specs.Header.{headerOf};
-ghost use Rattle.wav.specs.Frames.{framesOf, samplesIn, bytesOut};
+ghost use Rattle.wav.specs.Frames.{wholeFrames, samplesIn, bytesOut};
 ghost use Rattle.face.specs.File.{headerOut};
 use wav::header::Header;
 
@@ -38,7 +38,7 @@ pub extern "C" fn sedhavil_wav_header(bytes: &[u8], most: u32) -> WavHeader
 // Bytes become samples: as many whole frames as both have room for, and the answer is that count.
 #[no_mangle]
 pub extern "C" fn sedhavil_frames_in(bytes: &[u8], samples: &mut [f32]) -> usize
-    ensures { λ r. ⌜ (r ≡ framesOf (now (bytes .entry)) (now (samples .entry))) × (now (samples .exit) ≡ samplesIn (now (bytes .entry)) (now (samples .entry))) ⌝ }
+    ensures { λ r. ⌜ (r ≡ wholeFrames (now (bytes .entry)) (now (samples .entry))) × (now (samples .exit) ≡ samplesIn (now (bytes .entry)) (now (samples .entry))) ⌝ }
 {
     wav::frames::frames_in(bytes, samples)
 }
@@ -46,7 +46,7 @@ pub extern "C" fn sedhavil_frames_in(bytes: &[u8], samples: &mut [f32]) -> usize
 // Samples become bytes, in the same way.
 #[no_mangle]
 pub extern "C" fn sedhavil_frames_out(samples: &[f32], bytes: &mut [u8]) -> usize
-    ensures { λ r. ⌜ (r ≡ framesOf (now (bytes .entry)) (now (samples .entry))) × (now (bytes .exit) ≡ bytesOut (now (samples .entry)) (now (bytes .entry))) ⌝ }
+    ensures { λ r. ⌜ (r ≡ wholeFrames (now (bytes .entry)) (now (samples .entry))) × (now (bytes .exit) ≡ bytesOut (now (samples .entry)) (now (bytes .entry))) ⌝ }
 {
     wav::frames::frames_out(samples, bytes)
 }

@@ -14,7 +14,7 @@ use Rattle.integrators.specs.declared.Filtered.{Filtered}
 use Rattle.filters.specs.declared.eq_filter.Coefficients.{Coefficients}
 use Rattle.filters.specs.declared.eq_filter.EqFilterKind.{EqFilterKind}
 use Rattle.filters.specs.declared.eq_filter.EqFilterKind.the-variants.{Bell, LowShelf, HighShelf}
-use Rattle.integrators.specs.Integrators.{weightsOf, stepOf}
+use Rattle.integrators.specs.Integrators.{weightsOf, steppedOf}
 
 abbrev one : Float
 one = literal binary64 1 1
@@ -44,9 +44,9 @@ coefficientsOf HighShelf g q gain = highShelfOf g (hundredthOf q) (eqAmplitudeOf
 
 -- each coefficient narrowed where it is used
 unfoldable pub eqOf : EqFilterKind → Float → Float → ℤ → Integrators → Frame → Filtered
-unfolding coefficientsOf stepOf
+unfolding coefficientsOf steppedOf
 eqOf kind g q gain memory frame =
     let c = coefficientsOf kind g q gain in
-    let s = stepOf memory frame (narrowOf binary32 (c .a1)) (narrowOf binary32 (c .a2)) (narrowOf binary32 (c .a3)) in
+    let s = steppedOf memory frame (narrowOf binary32 (c .a1)) (narrowOf binary32 (c .a2)) (narrowOf binary32 (c .a3)) in
     let p = s .parts in
     record { output = addOf (addOf (mulOf frame (narrowOf binary32 (c .m0))) (mulOf (p .v1) (narrowOf binary32 (c .m1)))) (mulOf (p .v2) (narrowOf binary32 (c .m2))); after = s .after }

@@ -15,8 +15,8 @@ weightsOf g k =
     record { a1 = a1; a2 = a2; a3 = a3 }
 
 -- a1, a2 and a3 are f32 here: the Rust narrows them where it uses them
-unfoldable pub stepOf : Integrators → Frame → Float → Float → Float → Stepped
-stepOf memory frame a1 a2 a3 =
+unfoldable pub steppedOf : Integrators → Frame → Float → Float → Float → Stepped
+steppedOf memory frame a1 a2 a3 =
     let ic1eq = memory .ic1eq in
     let ic2eq = memory .ic2eq in
     let v3 = subOf frame ic2eq in

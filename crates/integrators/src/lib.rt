@@ -3,7 +3,7 @@
 // `step` takes and gives it by value; `step_in_place` changes it where it lies, by calling `step`;
 // `run` has plain parameters, lends the record and serves the filter and the EQ.
 ghost use mathlib.Core.Path.{_≡_};
-ghost use Rattle.integrators.specs.Integrators.{weightsOf, stepOf};
+ghost use Rattle.integrators.specs.Integrators.{weightsOf, steppedOf};
 use frame::Frame;
 
 pub struct Integrators {
@@ -44,7 +44,7 @@ pub fn weigh(g: f64, k: f64) -> Weights
 }
 
 fn step(memory: Integrators, input: Frame, a1: f32, a2: f32, a3: f32) -> Stepped
-    ensures { λ r. ⌜ r ≡ stepOf memory input a1 a2 a3 ⌝ }
+    ensures { λ r. ⌜ r ≡ steppedOf memory input a1 a2 a3 ⌝ }
 {
     let ic1eq = memory.ic1eq;
     let ic2eq = memory.ic2eq;
@@ -67,7 +67,7 @@ pub(crate) fn step_in_place(
     a2: f32,
     a3: f32,
 ) -> Parts
-    ensures { λ r. ⌜ (r ≡ stepOf (now (memory .entry)) input a1 a2 a3 .parts) × (now (memory .exit) ≡ stepOf (now (memory .entry)) input a1 a2 a3 .after) ⌝ }
+    ensures { λ r. ⌜ (r ≡ steppedOf (now (memory .entry)) input a1 a2 a3 .parts) × (now (memory .exit) ≡ steppedOf (now (memory .entry)) input a1 a2 a3 .after) ⌝ }
 {
     let stepped = step(*memory, input, a1, a2, a3);
     *memory = stepped.after;
@@ -75,7 +75,7 @@ pub(crate) fn step_in_place(
 }
 
 pub fn run(ic1eq: Frame, ic2eq: Frame, input: Frame, a1: f32, a2: f32, a3: f32) -> Stepped
-    ensures { λ r. ⌜ r ≡ stepOf (record { ic1eq = ic1eq; ic2eq = ic2eq }) input a1 a2 a3 ⌝ }
+    ensures { λ r. ⌜ r ≡ steppedOf (record { ic1eq = ic1eq; ic2eq = ic2eq }) input a1 a2 a3 ⌝ }
 {
     let mut memory = Integrators { ic1eq, ic2eq };
     let parts = step_in_place(&mut memory, input, a1, a2, a3);

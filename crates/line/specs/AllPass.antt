@@ -5,11 +5,11 @@ use lib.ListN.{length, getD, set}
 use lib.Ieee.{Float, nan, binary32, add, mul, neg}
 use Rattle.float.specs.Literal.{literal}
 use Rattle.line.specs.declared.all_pass.Passed.{Passed}
-use Rattle.line.specs.Position.{nextOf}
+use Rattle.line.specs.Position.{nextPosition}
 
 -- `-input + buffer_output`
 unfoldable pub passedOf : Float → ℕ → List Float → Passed
-passedOf input at line = record { output = add binary32 (neg input) (getD line at nan); at = nextOf at (length line) }
+passedOf input at line = record { output = add binary32 (neg input) (getD line at nan); at = nextPosition at (length line) }
 
 -- `input + buffer_output * FEEDBACK`
 unfoldable pub passLineOf : Float → ℕ → List Float → List Float

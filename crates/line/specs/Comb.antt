@@ -5,14 +5,14 @@ use lib.ListN.{length, getD, set}
 use lib.Ieee.{Float, nan, binary32, add, sub, mul}
 use Rattle.float.specs.Literal.{literal}
 use Rattle.line.specs.declared.comb.Combed.{Combed}
-use Rattle.line.specs.Position.{nextOf}
+use Rattle.line.specs.Position.{nextPosition}
 
 -- `output * (1.0 - damp) + filter_store * damp`
 unfoldable pub storeOf : Float → Float → Float → Float
 storeOf damp filterStore output = add binary32 (mul binary32 output (sub binary32 (literal binary32 1 1) damp)) (mul binary32 filterStore damp)
 
 unfoldable pub combedOf : Float → ℕ → Float → List Float → Combed
-combedOf damp at filterStore line = record { output = getD line at nan; at = nextOf at (length line); «filter_store» = storeOf damp filterStore (getD line at nan) }
+combedOf damp at filterStore line = record { output = getD line at nan; at = nextPosition at (length line); «filter_store» = storeOf damp filterStore (getD line at nan) }
 
 -- `input + filter_store * feedback` in the old float's place
 unfoldable pub combLineOf : Float → Float → Float → ℕ → Float → List Float → List Float

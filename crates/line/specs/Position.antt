@@ -3,5 +3,5 @@ use mathlib.Core.Bool.{cond}
 use Prim.Native.Nat.{ℕ, _+_}
 use lib.Dec.{ltb}
 
-unfoldable pub nextOf : ℕ → ℕ → ℕ
-nextOf at length = cond (ltb (at + 1) length) (at + 1) 0
+unfoldable pub nextPosition : ℕ → ℕ → ℕ
+nextPosition at length = cond (ltb (at + 1) length) (at + 1) 0

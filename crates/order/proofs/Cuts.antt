@@ -8,7 +8,7 @@ use native.Mathlib.Nat.{suc-add, zero-add}
 use lib.ListN.{length}
 use Rattle.order.specs.Order.{run}
 use Rattle.order.specs.Chain.{Out, State, Chain, step, Local, Inv}
-use Rattle.order.specs.Render.{from, first, rest, joined, pass, render}
+use Rattle.order.specs.Render.{from, first, rest, followedBy, pass, render}
 use Rattle.order.specs.Claims.{begin, Whole, Cut}
 use Rattle.order.proofs.FrameByFrame.{order-renders}
 
@@ -17,13 +17,13 @@ use Rattle.order.proofs.FrameByFrame.{order-renders}
 block : {X H : Type 0} → List X → H → Out X H
 block xs h = record { frame = xs; held = h }
 
-joined-assoc : {X H : Type 0} (q r u : Out X H) → joined q (joined r u) ≡ joined (joined q r) u
-unfolding joined
-joined-assoc q r u = λ i. record { frame = sym (append-assoc (q .frame) (r .frame) (u .frame)) i; held = u .held }
+followed-by-assoc : {X H : Type 0} (q r u : Out X H) → followedBy q (followedBy r u) ≡ followedBy (followedBy q r) u
+unfolding followedBy
+followed-by-assoc q r u = λ i. record { frame = sym (append-assoc (q .frame) (r .frame) (u .frame)) i; held = u .held }
 
 render-append : {X H : Type 0} (C : Chain X H) (c d : ℕ) (xs ys : List X) (h : H) → length xs ≡ c * 2
-    → render C (c + d) (block (xs ++ ys) h) ≡ joined (render C c (block xs h)) (render C d (block ys (render C c (block xs h) .held)))
-unfolding render joined block first rest
+    → render C (c + d) (block (xs ++ ys) h) ≡ followedBy (render C c (block xs h)) (render C d (block ys (render C c (block xs h) .held)))
+unfolding render followedBy block first rest
 render-append C zero d [] ys h e = rw zero-add
 render-append C zero d (x ∷ xs) ys h e = absurd (omega arith)
 render-append C (suc c) d [] ys h e = absurd (omega arith)
@@ -31,7 +31,7 @@ render-append C (suc c) d (x ∷ []) ys h e = absurd (omega arith)
 render-append C (suc c) d (x ∷ (y ∷ xs)) ys h e =
     let q = pass C 0 (C .n) (block (x ∷ (y ∷ [])) h) in
     let r = render C c (block xs (q .held)) in
-    rw suc-add (ap (joined q) (render-append C c d xs ys (q .held) (omega arith)) ∙ joined-assoc q r (render C d (block ys (r .held))))
+    rw suc-add (ap (followedBy q) (render-append C c d xs ys (q .held) (omega arith)) ∙ followed-by-assoc q r (render C d (block ys (r .held))))
 
 -- ---- the cut
 
@@ -41,7 +41,7 @@ module _ {X H : Type 0} (C : Chain X H) (Fits : H → Type 0) (Sized : ℕ → H
       → length (s₁ .samples) ≡ c * 2 → s .samples ≡ s₁ .samples ++ s₂ .samples → s .held ≡ s₁ .held → s₂ .held ≡ run (step C) s₁ a .held
       → Inv C Fits (c + d) s → Whole C (c + d) s e → Inv C Fits c s₁ → Whole C c s₁ a → Inv C Fits d s₂ → Whole C d s₂ b
       → Cut (run (step C) s e) (run (step C) s₁ a) (run (step C) s₂ b)
-  unfolding from block joined
+  unfolding from block followedBy
   cut-parts c d s s₁ s₂ e a b l p q h v w v₁ w₁ v₂ w₂ = record { samples = λ i. z i .frame; held = λ i. z i .held }
     where
       r₁ : Out X H
@@ -53,11 +53,11 @@ module _ {X H : Type 0} (C : Chain X H) (Fits : H → Type 0) (Sized : ℕ → H
       second-is : from 0 (run (step C) s₂ b) ≡ render C d (block (s₂ .samples) (r₁ .held))
       second-is = order-renders C Fits Sized L d b s₂ v₂ w₂ ∙ ap (λ g. render C d (block (s₂ .samples) g)) (h ∙ ap (λ (u : Out X H). u .held) first-is)
 
-      z : from 0 (run (step C) s e) ≡ joined (from 0 (run (step C) s₁ a)) (from 0 (run (step C) s₂ b))
+      z : from 0 (run (step C) s e) ≡ followedBy (from 0 (run (step C) s₁ a)) (from 0 (run (step C) s₂ b))
       z = order-renders C Fits Sized L (c + d) e s v w
           ∙ ap₂ (λ x g. render C (c + d) (block x g)) p q
           ∙ render-append C c d (s₁ .samples) (s₂ .samples) (s₁ .held) l
-          ∙ sym (ap₂ joined first-is second-is)
+          ∙ sym (ap₂ followedBy first-is second-is)
 
   pub cut-anywhere : (c d : ℕ) (xs ys : List X) (h : H) (p p₁ p₂ e a b : List ℕ) → length xs ≡ c * 2
       → Inv C Fits (c + d) (begin (xs ++ ys) h p) → Whole C (c + d) (begin (xs ++ ys) h p) e

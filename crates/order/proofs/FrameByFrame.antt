@@ -9,7 +9,7 @@ use lib.Seq.{drop-drop}
 use Rattle.order.specs.Order.{run}
 use Rattle.order.specs.Stretch.{part}
 use Rattle.order.specs.Chain.{Out, State, Chain, step, Ok, Done, Local, Inv}
-use Rattle.order.specs.Render.{row, frames, from, first, rest, joined, pass, render}
+use Rattle.order.specs.Render.{row, frames, from, first, rest, followedBy, pass, render}
 use Rattle.order.specs.Claims.{Finishes, Whole}
 use Rattle.order.proofs.Orders.{run-append, accepted-append}
 use Rattle.order.proofs.Keeps.{run-keeps}
@@ -19,10 +19,10 @@ use Rattle.order.proofs.OneFrame.{swept}
 -- frame t, and what is made of the frames after it
 glue : {X H : Type 0} (t : ℕ) (s s₁ z : State X H) (q : Out X H) (g : Out X H → Out X H) → first (from t s₁) ≡ q
     → drop (suc t * 2) (s₁ .samples) ≡ drop (suc t * 2) (s .samples) → part (t * 2) 2 (z .samples) ≡ part (t * 2) 2 (s₁ .samples)
-    → from (suc t) z ≡ g (from (suc t) s₁) → from t z ≡ joined q (g (rest q (from t s)))
-unfolding first from joined rest
+    → from (suc t) z ≡ g (from (suc t) s₁) → from t z ≡ followedBy q (g (rest q (from t s)))
+unfolding first from followedBy rest
 glue {X} {H} t s s₁ z q g h₁ h₂ h₃ h₄ =
-    subst (λ p. from t z ≡ joined p (g (rest p (from t s)))) h₁ (a ∙ ap (joined (first (from t s₁))) (h₄ ∙ ap g b))
+    subst (λ p. from t z ≡ followedBy p (g (rest p (from t s)))) h₁ (a ∙ ap (followedBy (first (from t s₁))) (h₄ ∙ ap g b))
   where
     two : (l : List X) → drop 2 (drop (t * 2) l) ≡ drop (suc t * 2) l
     two l = let e : t * 2 + 2 ≡ suc t * 2 = omega arith in drop-drop 2 (t * 2) l ∙ ap (λ n. drop n l) e
@@ -30,7 +30,7 @@ glue {X} {H} t s s₁ z q g h₁ h₂ h₃ h₄ =
     c : drop (t * 2) (z .samples) ≡ take 2 (drop (t * 2) (s₁ .samples)) ++ drop (suc t * 2) (z .samples)
     c = sym (take-append-drop 2 (drop (t * 2) (z .samples))) ∙ ap₂ (λ x y. x ++ y) h₃ (two (z .samples))
 
-    a : from t z ≡ joined (first (from t s₁)) (from (suc t) z)
+    a : from t z ≡ followedBy (first (from t s₁)) (from (suc t) z)
     a = λ i. record { frame = c i; held = z .held }
 
     b : from (suc t) s₁ ≡ rest (first (from t s₁)) (from t s)

@@ -32,8 +32,8 @@ module _ {X H : Type 0} where
   rest q r = record { frame = drop 2 (r .frame); held = q .held }
 
   -- q, and what came after it
-  unfoldable pub joined : Out X H → Out X H → Out X H
-  joined q u = record { frame = q .frame ++ u .frame; held = u .held }
+  unfoldable pub followedBy : Out X H → Out X H → Out X H
+  followedBy q u = record { frame = q .frame ++ u .frame; held = u .held }
 
   module _ (C : Chain X H) where
     -- a frame that stage k made, with its own put back
@@ -52,4 +52,4 @@ module _ {X H : Type 0} where
     -- m frames, one after another, each through all stages
     unfoldable pub render : ℕ → Out X H → Out X H
     render zero r = r
-    render (suc m) r = joined (pass 0 (C .n) (first r)) (render m (rest (pass 0 (C .n) (first r)) r))
+    render (suc m) r = followedBy (pass 0 (C .n) (first r)) (render m (rest (pass 0 (C .n) (first r)) r))

@@ -11,7 +11,7 @@ use lib.ListN.{length, getD, set, length-set}
 use lib.Seq.{getD-set-same, getD-set-other, ext-getD}
 use borrow.Author.Tests.{leb-true, leb-false, le-leb, lt-leb}
 use Rattle.stage.specs.declared.kind.Stage.{Stage}
-use Rattle.stage.specs.Kind.{stageAt, nextOf}
+use Rattle.stage.specs.Kind.{stageAt, nextPlace}
 use Rattle.stage.proofs.Firsts.{first-le, first-so, first-clear}
 use Rattle.stage.proofs.Next.{next-le, next-more, next-outside}
 use Rattle.refuse.specs.declared.tops.Tops.{Tops}
@@ -23,9 +23,9 @@ module _ (l : List Stage) (c : ℕ) where
   unfolding topAt
   top-zero = refl
 
-  pub top-more : (k i : ℕ) → i ≡ topAt l c k → nextOf (stageAt l i) i c ≡ topAt l c (k + 1)
+  pub top-more : (k i : ℕ) → i ≡ topAt l c k → nextPlace (stageAt l i) i c ≡ topAt l c (k + 1)
   unfolding topAt
-  top-more k i e = ap (λ (j : ℕ). nextOf (stageAt l j) j c) e ∙ sym (ap (topAt l c) (add-one k))
+  top-more k i e = ap (λ (j : ℕ). nextPlace (stageAt l j) j c) e ∙ sym (ap (topAt l c) (add-one k))
 
   pub top-le : (k : ℕ) → topAt l c k ≤ c
   unfolding topAt

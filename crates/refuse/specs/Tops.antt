@@ -4,14 +4,14 @@ use mathlib.Core.List.{List, [], _∷_}
 use Prim.Native.Nat.{ℕ, zero, suc}
 use lib.Dec.{leb}
 use Rattle.stage.specs.declared.kind.Stage.{Stage}
-use Rattle.stage.specs.Kind.{stageAt, nextOf}
+use Rattle.stage.specs.Kind.{stageAt, nextPlace}
 use Rattle.stage.specs.First.{firstOf}
 use Rattle.refuse.specs.declared.tops.Tops.{Tops}
 
 -- the list place of the kth top stage, of c stages; and c where there is none
 unfoldable pub topAt : List Stage → ℕ → ℕ → ℕ
 topAt l c zero = 0
-topAt l c (suc k) = nextOf (stageAt l (topAt l c k)) (topAt l c k) c
+topAt l c (suc k) = nextPlace (stageAt l (topAt l c k)) (topAt l c k) c
 
 -- how many there are
 unfoldable pub topsOf : List Stage → ℕ → ℕ

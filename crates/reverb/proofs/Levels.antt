@@ -9,7 +9,7 @@ use Rattle.float.specs.Literal.{literal}
 use Rattle.frame.specs.declared.Frame.{Frame}
 use Rattle.frame.specs.Mix.{mixOf}
 use Rattle.line.specs.Held.{Held, front, back, joined, Ran, ran}
-use Rattle.reverb.specs.Tuning.{combTunings, allPassTunings, tunings, floatsOf, reverbFloats}
+use Rattle.reverb.specs.Tuning.{combTunings, allPassTunings, tunings, tuningFloats, reverbFloats}
 use Rattle.reverb.specs.Reverb.{Heard, passesOf, combsOf, sideOf, widthOf, reverbed, reverbOf}
 
 abbrev pub mono : Frame → Float
@@ -31,8 +31,8 @@ module _ (rate : ℕ) (feedback damping : Float) where
   module _ (width mix : Float) (r : Ran) where
     pub reverbed-is : reverbed rate feedback damping width mix r
         ≡ both width mix (r .frame)
-        (sideOf 0 rate feedback damping (mono (r .frame)) (front (floatsOf 0 rate tunings) 12 8 (r .held)))
-        (sideOf 23 rate feedback damping (mono (r .frame)) (back (floatsOf 0 rate tunings) 12 8 (r .held)))
+        (sideOf 0 rate feedback damping (mono (r .frame)) (front (tuningFloats 0 rate tunings) 12 8 (r .held)))
+        (sideOf 23 rate feedback damping (mono (r .frame)) (back (tuningFloats 0 rate tunings) 12 8 (r .held)))
     unfolding reverbed both
     reverbed-is = refl
 

@@ -9,7 +9,7 @@ use Rattle.float.specs.Literal.{literal}
 use Rattle.frame.specs.declared.Frame.{Frame}
 use Rattle.frame.specs.Mix.{mixOf}
 use Rattle.line.specs.Held.{Held, holds, front, back, joined, Ran, ran}
-use Rattle.reverb.specs.Tuning.{combTunings, allPassTunings, tunings, floatsOf, reverbFloats}
+use Rattle.reverb.specs.Tuning.{combTunings, allPassTunings, tunings, tuningFloats, reverbFloats}
 use Rattle.reverb.specs.Reverb.{heard, passesOf, combsOf, widthOf, reverbOf}
 use Rattle.reverb.proofs.Levels.{mono, both, side-is, reverbed-is, reverb-is}
 use Rattle.line.proofs.Lent.{lent, home, rest-lent, rest-home}
@@ -27,7 +27,7 @@ module _ (rate : ℕ) (feedback damping width mix : Float) where
 
   -- the left side gave `left` and left a of the fronts; then the right side, lent the rests, gave `right` and left b
   module _ (n : ℕ) (x y : Frame) (store : List Float) (positions : List ℕ) (floats : List Float) (left right : Float) (a b : Held) where
-    pub both-sides : reverbFloats rate ≤ length store → 24 ≤ length positions → 16 ≤ length floats → n ≡ floatsOf 0 rate tunings
+    pub both-sides : reverbFloats rate ≤ length store → 24 ≤ length positions → 16 ≤ length floats → n ≡ tuningFloats 0 rate tunings
         → length (a .store) ≡ n → length (a .positions) ≡ 12 → length (a .floats) ≡ 8
         → heard left a ≡ combsOf 0 rate feedback damping (mono x) (passesOf 0 rate allPassTunings) combTunings (literal binary32 0 1) (holds (take n store) (take 12 positions) (take 8 floats))
         → heard right b

@@ -7,7 +7,7 @@ use native.Mathlib.Numerals.{add-one}
 use native.Mathlib.Omega.{arith}
 use lib.ListN.{length, getD, drop, length-append, List·getD-append, List·getD-eq-default}
 use lib.Seq.{drop-length, drop-cons, getD-append-add}
-use Rattle.reverb.specs.Tuning.{combTunings, allPassTunings, tunings, lengthOf, lineOf, floatsOf, lengthsOf, reverbLines, reverbFloats}
+use Rattle.reverb.specs.Tuning.{combTunings, allPassTunings, tunings, lengthOf, lineOf, tuningFloats, lengthsOf, reverbLines, reverbFloats}
 
 abbrev total : List ℕ → ℕ
 total [] = 0
@@ -27,28 +27,28 @@ unfolding lengthOf
 line-within n rate h = omega (arith, mul-le-mul-right rate h)
 
 module _ (spread rate : ℕ) (l : List ℕ) (k : ℕ) where
-  pub floats-none : k ≡ length l → 0 ≡ floatsOf spread rate (drop k l)
-  unfolding floatsOf
+  pub floats-none : k ≡ length l → 0 ≡ tuningFloats spread rate (drop k l)
+  unfolding tuningFloats
   floats-none h = rw (h, drop-length l)
 
-  pub floats-more : k < length l → floatsOf spread rate (drop k l) ≡ lineOf spread rate (getD l k 0) + floatsOf spread rate (drop (k + 1) l)
-  unfolding floatsOf
+  pub floats-more : k < length l → tuningFloats spread rate (drop k l) ≡ lineOf spread rate (getD l k 0) + tuningFloats spread rate (drop (k + 1) l)
+  unfolding tuningFloats
   floats-more h = rw (add-one, drop-cons l k 0 h)
 
 -- the combs come first, and then the all-passes: line k of each, whose length is n
 module _ (spread rate n k : ℕ) where
-  pub comb-floats : k < 8 → n ≡ lineOf spread rate (getD tunings k 0) → floatsOf spread rate (drop k combTunings) ≡ n + floatsOf spread rate (drop (k + 1) combTunings)
+  pub comb-floats : k < 8 → n ≡ lineOf spread rate (getD tunings k 0) → tuningFloats spread rate (drop k combTunings) ≡ n + tuningFloats spread rate (drop (k + 1) combTunings)
   comb-floats h e = floats-more spread rate combTunings k h ∙ rw (e, List·getD-append combTunings allPassTunings 0 k h)
 
-  pub all-pass-floats : k < 4 → n ≡ lineOf spread rate (getD tunings (8 + k) 0) → floatsOf spread rate (drop k allPassTunings) ≡ n + floatsOf spread rate (drop (k + 1) allPassTunings)
+  pub all-pass-floats : k < 4 → n ≡ lineOf spread rate (getD tunings (8 + k) 0) → tuningFloats spread rate (drop k allPassTunings) ≡ n + tuningFloats spread rate (drop (k + 1) allPassTunings)
   all-pass-floats h e = floats-more spread rate allPassTunings k h ∙ rw (e, getD-append-add combTunings allPassTunings k 0)
 
 -- a side's lines are its combs and its all-passes
-pub side-floats-are : (spread rate : ℕ) → floatsOf spread rate tunings ≡ floatsOf spread rate combTunings + floatsOf spread rate allPassTunings
-unfolding floatsOf
+pub side-floats-are : (spread rate : ℕ) → tuningFloats spread rate tunings ≡ tuningFloats spread rate combTunings + tuningFloats spread rate allPassTunings
+unfolding tuningFloats
 side-floats-are spread rate = omega arith
 
-pub reverb-floats-are : (rate : ℕ) → reverbFloats rate ≡ floatsOf 0 rate tunings + floatsOf 23 rate tunings
+pub reverb-floats-are : (rate : ℕ) → reverbFloats rate ≡ tuningFloats 0 rate tunings + tuningFloats 23 rate tunings
 unfolding reverbFloats
 reverb-floats-are rate = refl
 
@@ -87,8 +87,8 @@ module _ (rate : ℕ) where
   past-lines k h = sym (List·getD-eq-default (reverbLines rate) 0 (omega (arith, lines-length)))
 
   -- together they are as long as the reverb needs, and no longer than 24 seconds
-  pub floats-within : (spread : ℕ) → spread ≤ 23 → floatsOf spread rate tunings ≤ 12 * rate
-  unfolding floatsOf lineOf
+  pub floats-within : (spread : ℕ) → spread ≤ 23 → tuningFloats spread rate tunings ≤ 12 * rate
+  unfolding tuningFloats lineOf
   floats-within spread h =
       omega (arith, line-within (1116 + spread) rate (omega arith), line-within (1188 + spread) rate (omega arith), line-within (1277 + spread) rate (omega arith), line-within (1356 + spread) rate (omega arith), line-within (1422 + spread) rate (omega arith), line-within (1491 + spread) rate (omega arith), line-within (1557 + spread) rate (omega arith), line-within (1617 + spread) rate (omega arith), line-within (556 + spread) rate (omega arith), line-within (441 + spread) rate (omega arith), line-within (341 + spread) rate (omega arith), line-within (225 + spread) rate (omega arith))
 

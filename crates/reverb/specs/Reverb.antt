@@ -11,7 +11,7 @@ use Rattle.frame.specs.Mix.{mixOf}
 use Rattle.line.specs.Held.{Held, holds, front, back, joined, Ran, ran}
 use Rattle.line.specs.Comb.{combedOf, combLineOf}
 use Rattle.line.specs.AllPass.{passedOf, passLineOf}
-use Rattle.reverb.specs.Tuning.{combTunings, allPassTunings, tunings, lineOf, floatsOf, reverbFloats}
+use Rattle.reverb.specs.Tuning.{combTunings, allPassTunings, tunings, lineOf, tuningFloats, reverbFloats}
 
 -- a sample, and what is held beside it
 pub record Heard : Type 0 where
@@ -69,7 +69,7 @@ unfoldable pub reverbed : ℕ → Float → Float → Float → Float → Ran �
 unfolding sideOf
 reverbed rate feedback damping width mix r =
     let input = mul binary32 (add binary32 (r .frame .left) (r .frame .right)) (literal binary32 15 1000) in
-    let n = floatsOf 0 rate tunings in
+    let n = tuningFloats 0 rate tunings in
     let left = sideOf 0 rate feedback damping input (front n 12 8 (r .held)) in
     let right = sideOf 23 rate feedback damping input (back n 12 8 (r .held)) in
     ran (mixOf (widthOf (left .out) (right .out) width) (r .frame) mix) (joined (left .held) (right .held))

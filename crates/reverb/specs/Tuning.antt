@@ -21,10 +21,10 @@ unfolding lengthOf
 lineOf spread rate tuning = lengthOf (tuning + spread) rate
 
 -- the floats of several lines
-unfoldable pub floatsOf : ℕ → ℕ → List ℕ → ℕ
+unfoldable pub tuningFloats : ℕ → ℕ → List ℕ → ℕ
 unfolding lineOf
-floatsOf spread rate [] = 0
-floatsOf spread rate (t ∷ ts) = lineOf spread rate t + floatsOf spread rate ts
+tuningFloats spread rate [] = 0
+tuningFloats spread rate (t ∷ ts) = lineOf spread rate t + tuningFloats spread rate ts
 
 -- their lengths, one by one
 unfoldable pub lengthsOf : ℕ → ℕ → List ℕ → List ℕ
@@ -38,5 +38,5 @@ unfolding lengthsOf
 reverbLines rate = lengthsOf 0 rate tunings ++ lengthsOf 23 rate tunings
 
 unfoldable pub reverbFloats : ℕ → ℕ
-unfolding floatsOf
-reverbFloats rate = floatsOf 0 rate tunings + floatsOf 23 rate tunings
+unfolding tuningFloats
+reverbFloats rate = tuningFloats 0 rate tunings + tuningFloats 23 rate tunings

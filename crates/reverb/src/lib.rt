@@ -7,7 +7,7 @@ ghost use Prim.Native.Nat.{_+_, _-_, _≤_};
 ghost use lib.Ieee.{Float};
 ghost use lib.ListN.{length, drop};
 ghost use Rattle.line.specs.Held.{holds, ran};
-ghost use Rattle.reverb.specs.Tuning.{combTunings, allPassTunings, floatsOf};
+ghost use Rattle.reverb.specs.Tuning.{combTunings, allPassTunings, tuningFloats};
 ghost use Rattle.reverb.specs.Reverb.{heard, passesOf, combsOf, widthOf, reverbOf};
 use crate::tuning::line_of;
 use crate::tuning::reverb_floats;
@@ -27,7 +27,7 @@ fn passes(
     store: &mut [f32],
     positions: &mut [usize],
 ) -> f32
-    requires { ⌜ (k ≤ 4) × (spread ≤ 23) × (floatsOf spread rate (drop k allPassTunings) ≤ length (now store)) × (4 - k ≤ length (now positions)) ⌝ }
+    requires { ⌜ (k ≤ 4) × (spread ≤ 23) × (tuningFloats spread rate (drop k allPassTunings) ≤ length (now store)) × (4 - k ≤ length (now positions)) ⌝ }
     ensures { λ r. ⌜ ((floats : List Float) → heard r (holds (now (store .exit)) (now (positions .exit)) floats)
         ≡ passesOf spread rate (drop k allPassTunings) input (holds (now (store .entry)) (now (positions .entry)) floats)) ⌝ }
 {
@@ -60,7 +60,7 @@ fn combs(
     positions: &mut [usize],
     floats: &mut [f32],
 ) -> f32
-    requires { ⌜ (k ≤ 8) × (spread ≤ 23) × (floatsOf spread rate (drop k combTunings) + floatsOf spread rate allPassTunings ≤ length (now store)) × (12 - k ≤ length (now positions)) × (8 - k ≤ length (now floats)) ⌝ }
+    requires { ⌜ (k ≤ 8) × (spread ≤ 23) × (tuningFloats spread rate (drop k combTunings) + tuningFloats spread rate allPassTunings ≤ length (now store)) × (12 - k ≤ length (now positions)) × (8 - k ≤ length (now floats)) ⌝ }
     ensures { λ r. ⌜ heard r (holds (now (store .exit)) (now (positions .exit)) (now (floats .exit)))
         ≡ combsOf spread rate feedback damping input (passesOf spread rate allPassTunings) (drop k combTunings) sum (holds (now (store .entry)) (now (positions .entry)) (now (floats .entry))) ⌝ }
 {

@@ -3,7 +3,7 @@
 ghost use mathlib.Core.Path.{_≡_};
 ghost use Prim.Native.Nat.{_*_, _-_, _≤_, _<_};
 ghost use lib.ListN.{getD, drop};
-ghost use Rattle.reverb.specs.Tuning.{tunings, lengthOf, lineOf, floatsOf, reverbLines, reverbFloats};
+ghost use Rattle.reverb.specs.Tuning.{tunings, lengthOf, lineOf, tuningFloats, reverbLines, reverbFloats};
 
 // A side's eight combs, then its four all-passes.
 const TUNINGS: [u32; 12] = [
@@ -52,7 +52,7 @@ pub fn reverb_line(k: usize, rate: u32) -> usize
 // The floats of a side's lines from line k on.
 fn floats_from(k: usize, spread: u32, rate: u32) -> usize
     requires { ⌜ k ≤ 12 ⌝ ∗ ⌜ spread ≤ 23 ⌝ }
-    ensures { λ r. ⌜ (r ≡ floatsOf spread rate (drop k tunings)) × (r ≤ (12 - k) * 0xffff_ffff) ⌝ }
+    ensures { λ r. ⌜ (r ≡ tuningFloats spread rate (drop k tunings)) × (r ≤ (12 - k) * 0xffff_ffff) ⌝ }
 {
     if k == 12 {
         return 0;
@@ -69,7 +69,7 @@ pub fn reverb_floats(rate: u32) -> usize
 
 pub(crate) fn side_floats(spread: u32, rate: u32) -> usize
     requires { ⌜ spread ≤ 23 ⌝ }
-    ensures { λ r. ⌜ (r ≡ floatsOf spread rate tunings) × (r ≤ 12 * 0xffff_ffff) ⌝ }
+    ensures { λ r. ⌜ (r ≡ tuningFloats spread rate tunings) × (r ≤ 12 * 0xffff_ffff) ⌝ }
 {
     floats_from(0, spread, rate)
 }

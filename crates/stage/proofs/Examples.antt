@@ -14,7 +14,7 @@ use Rattle.filters.specs.declared.eq_filter.EqFilterKind.the-variants.{Bell}
 use Rattle.stage.specs.declared.kind.Stage.{Stage}
 use Rattle.stage.specs.declared.kind.Stage.the-variants.{PanningControl, Distortion, Filter, EqFilter, Reverb, Delay}
 use Rattle.stage.specs.First.{firstFrom}
-use Rattle.stage.specs.Kind.{nextOf}
+use Rattle.stage.specs.Kind.{nextPlace}
 use Rattle.stage.specs.Layout.{floatsOf}
 use Rattle.stage.specs.Lines.{lostOf}
 use Rattle.stage.specs.Range.{inRangeOf}
@@ -156,10 +156,10 @@ unfolding lostOf firstFrom reverbLines
 reverb-lost = refl
 
 -- a delay at place 1 that owns two stages: the next place is 4, or the end before that
-pub next-4 : nextOf (Delay 10 (pos 0) one 2) 1 16 ≡ 4
-unfolding nextOf
+pub next-4 : nextPlace (Delay 10 (pos 0) one 2) 1 16 ≡ 4
+unfolding nextPlace
 next-4 = refl
 
-pub next-end : nextOf (Delay 10 (pos 0) one 2) 1 3 ≡ 3
-unfolding nextOf
+pub next-end : nextPlace (Delay 10 (pos 0) one 2) 1 3 ≡ 3
+unfolding nextPlace
 next-end = refl

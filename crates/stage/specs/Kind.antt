@@ -23,6 +23,6 @@ ownedOf (Reverb feedback damping width mix) = 0
 ownedOf (Delay frames feedback mix owned) = owned
 
 -- the place after the stage at i and those that it owns, but no further than `end`
-unfoldable pub nextOf : Stage → ℕ → ℕ → ℕ
+unfoldable pub nextPlace : Stage → ℕ → ℕ → ℕ
 unfolding ownedOf
-nextOf s i end = cond (ltb (ownedOf s) (end - i)) (i + 1 + ownedOf s) end
+nextPlace s i end = cond (ltb (ownedOf s) (end - i)) (i + 1 + ownedOf s) end

@@ -3,7 +3,7 @@
 ghost use mathlib.Core.Path.{_≡_};
 ghost use Prim.Native.Nat.{_*_, _≤_, _<_};
 ghost use lib.ListN.{getD};
-ghost use Rattle.stage.specs.Kind.{nextOf};
+ghost use Rattle.stage.specs.Kind.{nextPlace};
 ghost use Rattle.stage.specs.Layout.{floatsOf, startsOf, sizeOf};
 use crate::kind::Stage;
 use crate::kind::owned;
@@ -65,7 +65,7 @@ pub fn starts_of(rate: u32, stages: [Stage; 16]) -> [usize; 17]
 
 // The place after the stage at i and the stages that it owns, but no further than `end`.
 pub fn next_place(stage: Stage, i: usize, end: usize) -> usize
-    ensures { λ r. ⌜ (r ≡ nextOf stage i end) × (r ≤ end) × (i < end → i < r) ⌝ }
+    ensures { λ r. ⌜ (r ≡ nextPlace stage i end) × (r ≤ end) × (i < end → i < r) ⌝ }
 {
     if i < end {
         let n = owned(stage);

@@ -16,41 +16,41 @@ use Rattle.line.specs.Held.{Ran, ran}
 use Rattle.reverb.specs.Reverb.{reverbOf}
 use Rattle.stage.specs.declared.kind.Stage.{Stage}
 use Rattle.stage.specs.declared.kind.Stage.the-variants.{VolumeControl, PanningControl, Distortion, Filter, EqFilter, Reverb, Delay}
-use Rattle.stage.specs.Kind.{stageAt, nextOf}
+use Rattle.stage.specs.Kind.{stageAt, nextPlace}
 use Rattle.stage.specs.Layout.{sizeOf}
-use Rattle.step.specs.Step.{filterStage, eqStage, delayStage, stageOf, inTurn, spanOf, stepOf, placeOf}
+use Rattle.step.specs.Step.{filterStage, eqStage, delayStage, stageStep, inTurn, spanOf, stepOf, processAt}
 
 module _ (rate : ℕ) (inner : Ran → Ran) (r : Ran) where
-  pub volume-is : (volume : ℤ) → stageOf rate inner (VolumeControl volume) r ≡ ran (volumeOf volume (r .frame)) (r .held)
-  unfolding stageOf
+  pub volume-is : (volume : ℤ) → stageStep rate inner (VolumeControl volume) r ≡ ran (volumeOf volume (r .frame)) (r .held)
+  unfolding stageStep
   volume-is volume = refl
 
-  pub panning-is : (panning : Float) → stageOf rate inner (PanningControl panning) r ≡ ran (panningOf panning (r .frame)) (r .held)
-  unfolding stageOf
+  pub panning-is : (panning : Float) → stageStep rate inner (PanningControl panning) r ≡ ran (panningOf panning (r .frame)) (r .held)
+  unfolding stageStep
   panning-is panning = refl
 
-  pub distortion-is : (kind : DistortionKind) (drive : ℤ) (mix : Float) → stageOf rate inner (Distortion kind drive mix) r ≡ ran (distortionOf kind drive mix (r .frame)) (r .held)
-  unfolding stageOf
+  pub distortion-is : (kind : DistortionKind) (drive : ℤ) (mix : Float) → stageStep rate inner (Distortion kind drive mix) r ≡ ran (distortionOf kind drive mix (r .frame)) (r .held)
+  unfolding stageStep
   distortion-is kind drive mix = refl
 
-  pub filter-is : (mode : FilterMode) (g resonance mix : Float) → stageOf rate inner (Filter mode g resonance mix) r ≡ filterStage mode g resonance mix r
-  unfolding stageOf
+  pub filter-is : (mode : FilterMode) (g resonance mix : Float) → stageStep rate inner (Filter mode g resonance mix) r ≡ filterStage mode g resonance mix r
+  unfolding stageStep
   filter-is mode g resonance mix = refl
 
-  pub eq-is : (kind : EqFilterKind) (g : Float) (gain : ℤ) (q : Float) → stageOf rate inner (EqFilter kind g gain q) r ≡ eqStage kind g gain q r
-  unfolding stageOf
+  pub eq-is : (kind : EqFilterKind) (g : Float) (gain : ℤ) (q : Float) → stageStep rate inner (EqFilter kind g gain q) r ≡ eqStage kind g gain q r
+  unfolding stageStep
   eq-is kind g gain q = refl
 
-  pub reverb-is : (feedback damping width mix : Float) → stageOf rate inner (Reverb feedback damping width mix) r ≡ reverbOf rate feedback damping width mix r
-  unfolding stageOf
+  pub reverb-is : (feedback damping width mix : Float) → stageStep rate inner (Reverb feedback damping width mix) r ≡ reverbOf rate feedback damping width mix r
+  unfolding stageStep
   reverb-is feedback damping width mix = refl
 
-  pub delay-is : (frames : ℕ) (feedback : ℤ) (mix : Float) (owned : ℕ) → stageOf rate inner (Delay frames feedback mix owned) r ≡ delayStage frames feedback mix inner r
-  unfolding stageOf
+  pub delay-is : (frames : ℕ) (feedback : ℤ) (mix : Float) (owned : ℕ) → stageStep rate inner (Delay frames feedback mix owned) r ≡ delayStage frames feedback mix inner r
+  unfolding stageStep
   delay-is frames feedback mix owned = refl
 
 module _ (rate : ℕ) (l : List Stage) (starts : List ℕ) (i e : ℕ) (r : Ran) where
-  pub step-is : (n left : ℕ) → stepOf n left rate l starts i e r ≡ stageOf rate (spanOf n left rate l starts (i + 1) e) (stageAt l i) r
+  pub step-is : (n left : ℕ) → stepOf n left rate l starts i e r ≡ stageStep rate (spanOf n left rate l starts (i + 1) e) (stageAt l i) r
   unfolding stepOf
   step-is n left = refl
 
@@ -65,14 +65,14 @@ module _ (rate : ℕ) (l : List Stage) (starts : List ℕ) (i e : ℕ) (r : Ran)
   -- the stage at i on the front, and those from the next on, on the rest
   pub span-is : (n left : ℕ) → spanOf (suc n) (suc left) rate l starts i e r
       ≡ cond (ltb i e)
-      (inTurn (sizeOf starts i (nextOf (stageAt l i) i e)) (nextOf (stageAt l i) i e - i)
-      (stepOf n left rate l starts i (nextOf (stageAt l i) i e))
-      (spanOf n (suc left) rate l starts (nextOf (stageAt l i) i e) e)
+      (inTurn (sizeOf starts i (nextPlace (stageAt l i) i e)) (nextPlace (stageAt l i) i e - i)
+      (stepOf n left rate l starts i (nextPlace (stageAt l i) i e))
+      (spanOf n (suc left) rate l starts (nextPlace (stageAt l i) i e) e)
       r)
       r
   unfolding spanOf stepOf
   span-is n left = refl
 
-  pub place-is : placeOf rate l starts i e r ≡ cond (ltb i e && leb e 16) (stepOf 16 3 rate l starts i e r) r
-  unfolding placeOf
+  pub place-is : processAt rate l starts i e r ≡ cond (ltb i e && leb e 16) (stepOf 16 3 rate l starts i e r) r
+  unfolding processAt
   place-is = refl

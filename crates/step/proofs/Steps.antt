@@ -14,20 +14,20 @@ use Rattle.frame.specs.declared.Frame.{Frame}
 use Rattle.frame.specs.Operations.{addOf, mulOf}
 use Rattle.frame.specs.Mix.{mixOf}
 use Rattle.line.specs.Held.{Held, holds, front, back, joined, Ran, ran}
-use Rattle.line.specs.Position as Position
+use Rattle.line.specs.Position.{nextPosition}
 use Rattle.line.specs.Frames.{frameAt, frameIn}
 use Rattle.line.proofs.Lent.{lent, home}
 use Rattle.stage.specs.declared.kind.Stage.{Stage}
-use Rattle.stage.specs.Kind.{stageAt, nextOf}
+use Rattle.stage.specs.Kind.{stageAt, nextPlace}
 use Rattle.stage.specs.Layout.{sizeOf, frontPlaces, backPlaces}
-use Rattle.step.specs.Step.{delayStage, stageOf, inTurn, spanOf, stepOf, placeOf}
+use Rattle.step.specs.Step.{delayStage, stageStep, inTurn, spanOf, stepOf, processAt}
 use Rattle.step.proofs.Lent.{front-is, lent-is, home-is, home-front, home-rest, then-lent, then-home, set-front}
 use Rattle.step.proofs.Levels.{step-is, span-zero, span-shallow, span-is, place-is}
 
 -- ---- a stage
 
 pub step-by : (rate : ℕ) (l : List Stage) (starts : List ℕ) (i e left : ℕ) (r z : Ran) (s : Stage) → stageAt l i ≡ s
-    → ((n : ℕ) → e - (i + 1) ≤ n → z ≡ stageOf rate (spanOf n left rate l starts (i + 1) e) s r)
+    → ((n : ℕ) → e - (i + 1) ≤ n → z ≡ stageStep rate (spanOf n left rate l starts (i + 1) e) s r)
     → (n : ℕ) → e - (i + 1) ≤ n → z ≡ stepOf n left rate l starts i e r
 step-by rate l starts i e left r z s q met n g = rw (step-is, q) (met n g)
 
@@ -53,7 +53,7 @@ turn-met lines places f g x y z h a b p q = rw (← p, ← q)
 
 -- the stage at i on the front, and the stages from the next on the rest
 span-more : (rate : ℕ) (l : List Stage) (starts : List ℕ) (i e left next : ℕ) (x y z : Frame) (h a b : Held)
-    → next ≡ nextOf (stageAt l i) i e → i < e → i < next → next ≤ e → (left ≡ 0 → ⊥)
+    → next ≡ nextPlace (stageAt l i) i e → i < e → i < next → next ≤ e → (left ≡ 0 → ⊥)
     → ((n : ℕ) → next - (i + 1) ≤ n → ran y a ≡ stepOf n (left - 1) rate l starts i next (ran x (frontPlaces (sizeOf starts i next) (next - i) h)))
     → ((n : ℕ) → e - next ≤ n → ran z b ≡ spanOf n left rate l starts next e (ran y (backPlaces (sizeOf starts i next) (next - i) h)))
     → (n : ℕ) → e - i ≤ n → ran z (joined a b) ≡ spanOf n left rate l starts i e (ran x h)
@@ -65,7 +65,7 @@ span-more rate l starts i e (suc left) next x y z h a b q lt ln ne d one rest (s
 
 -- the same, where the first s, p and f were lent and came back as a, and then what follows them came back as b
 pub span-lent : (rate : ℕ) (l : List Stage) (starts : List ℕ) (i e left next s p f : ℕ) (x y z : Frame) (st : List Float) (po : List ℕ) (fl : List Float) (a b : Held)
-    → next ≡ nextOf (stageAt l i) i e → i < e → i < next → next ≤ e → (left ≡ 0 → ⊥)
+    → next ≡ nextPlace (stageAt l i) i e → i < e → i < next → next ≤ e → (left ≡ 0 → ⊥)
     → s ≡ min (sizeOf starts i next) (length st) → p ≡ min (24 * (next - i)) (length po) → f ≡ min (20 * (next - i)) (length fl)
     → length (a .store) ≡ length (take s st) → length (a .positions) ≡ length (take p po) → length (a .floats) ≡ length (take f fl)
     → ((n : ℕ) → next - (i + 1) ≤ n → ran y a ≡ stepOf n (left - 1) rate l starts i next (ran x (holds (take s st) (take p po) (take f fl))))
@@ -90,7 +90,7 @@ module _ (frames : ℕ) (feedback : ℤ) (mix : Float) (inner : Ran → Ran) whe
       → ran (mixOf (mulOf fed (amplitudeOf feedback)) x mix)
       (joined
       (holds (frameIn (getD (h .positions) 0 0) (addOf x (mulOf fed (amplitudeOf feedback))) (take (2 * frames) (h .store)))
-      (set (take 24 (h .positions)) 0 (Position.nextOf (getD (h .positions) 0 0) frames))
+      (set (take 24 (h .positions)) 0 (nextPosition (getD (h .positions) 0 0) frames))
       (take 20 (h .floats)))
       b)
       ≡ delayStage frames feedback mix inner (ran x h)
@@ -106,7 +106,7 @@ module _ (frames : ℕ) (feedback : ℤ) (mix : Float) (inner : Ran → Ran) whe
       → ran fed b ≡ inner (ran old (holds (lent s st) (lent p po) (lent f fl)))
       → amp ≡ amplitudeOf feedback → wet ≡ mulOf fed amp → new ≡ addOf x wet
       → line ≡ frameIn at new (take s (home s st (b .store)))
-      → w ≡ Position.nextOf at frames
+      → w ≡ nextPosition at frames
       → pos ≡ set (home p po (b .positions)) 0 w
       → y ≡ mixOf wet x mix
       → ran y (holds (line ++ drop s (home s st (b .store))) pos (home f fl (b .floats))) ≡ delayStage frames feedback mix inner (ran x (holds st po fl))
@@ -120,15 +120,15 @@ module _ (frames : ℕ) (feedback : ℤ) (mix : Float) (inner : Ran → Ran) whe
 -- ---- a list place
 
 module _ (rate : ℕ) (l : List Stage) (starts : List ℕ) (i e : ℕ) (r : Ran) where
-  pub place-inside : i < e → e ≤ 16 → placeOf rate l starts i e r ≡ stepOf 16 3 rate l starts i e r
+  pub place-inside : i < e → e ≤ 16 → processAt rate l starts i e r ≡ stepOf 16 3 rate l starts i e r
   place-inside h g = rw (place-is, lt-ltb i e h, le-leb e 16 g)
 
-  pub place-empty : e ≤ i → placeOf rate l starts i e r ≡ r
+  pub place-empty : e ≤ i → processAt rate l starts i e r ≡ r
   place-empty h = rw (place-is, le-ltb i e h)
 
-  pub place-past : 16 < e → placeOf rate l starts i e r ≡ r
+  pub place-past : 16 < e → processAt rate l starts i e r ≡ r
   place-past h = go (decLt i e)
     where
-      go : Dec (i < e) → placeOf rate l starts i e r ≡ r
+      go : Dec (i < e) → processAt rate l starts i e r ≡ r
       go (yes g) = rw (place-is, lt-ltb i e g, lt-leb e 16 h)
       go (no g) = place-empty (omega arith)

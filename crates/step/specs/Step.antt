@@ -17,12 +17,12 @@ use Rattle.effect.specs.Distortion.{distortionOf}
 use Rattle.filters.specs.Filter.{filterOf}
 use Rattle.filters.specs.EqFilter.{eqOf}
 use Rattle.line.specs.Held.{holds, joined, Ran, ran}
-use Rattle.line.specs.Position as Position
+use Rattle.line.specs.Position.{nextPosition}
 use Rattle.line.specs.Frames.{frameAt, frameIn}
 use Rattle.reverb.specs.Reverb.{reverbOf}
 use Rattle.stage.specs.declared.kind.Stage.{Stage}
 use Rattle.stage.specs.declared.kind.Stage.the-variants.{VolumeControl, PanningControl, Distortion, Filter, EqFilter, Reverb, Delay}
-use Rattle.stage.specs.Kind.{stageAt, nextOf}
+use Rattle.stage.specs.Kind.{stageAt, nextPlace}
 use Rattle.stage.specs.Layout.{sizeOf, frontPlaces, backPlaces}
 use Rattle.step.specs.Memory.{remembered, remember}
 
@@ -51,19 +51,19 @@ delayStage frames feedback mix inner r =
     let fed = inner (ran (frameAt at (own .store)) rest) in
     let wet = mulOf (fed .frame) (amplitudeOf feedback) in
     ran (mixOf wet (r .frame) mix)
-    (joined (holds (frameIn at (addOf (r .frame) wet) (own .store)) (set (own .positions) 0 (Position.nextOf at frames)) (own .floats)) (fed .held))
+    (joined (holds (frameIn at (addOf (r .frame) wet) (own .store)) (set (own .positions) 0 (nextPosition at frames)) (own .floats)) (fed .held))
 
 -- ---- a stage, whose feedback stages are `inner`
 
-unfoldable pub stageOf : ℕ → (Ran → Ran) → Stage → Ran → Ran
+unfoldable pub stageStep : ℕ → (Ran → Ran) → Stage → Ran → Ran
 unfolding filterStage eqStage delayStage
-stageOf rate inner (VolumeControl volume) r = ran (volumeOf volume (r .frame)) (r .held)
-stageOf rate inner (PanningControl panning) r = ran (panningOf panning (r .frame)) (r .held)
-stageOf rate inner (Distortion kind drive mix) r = ran (distortionOf kind drive mix (r .frame)) (r .held)
-stageOf rate inner (Filter mode g resonance mix) r = filterStage mode g resonance mix r
-stageOf rate inner (EqFilter kind g gain q) r = eqStage kind g gain q r
-stageOf rate inner (Reverb feedback damping width mix) r = reverbOf rate feedback damping width mix r
-stageOf rate inner (Delay frames feedback mix owned) r = delayStage frames feedback mix inner r
+stageStep rate inner (VolumeControl volume) r = ran (volumeOf volume (r .frame)) (r .held)
+stageStep rate inner (PanningControl panning) r = ran (panningOf panning (r .frame)) (r .held)
+stageStep rate inner (Distortion kind drive mix) r = ran (distortionOf kind drive mix (r .frame)) (r .held)
+stageStep rate inner (Filter mode g resonance mix) r = filterStage mode g resonance mix r
+stageStep rate inner (EqFilter kind g gain q) r = eqStage kind g gain q r
+stageStep rate inner (Reverb feedback damping width mix) r = reverbOf rate feedback damping width mix r
+stageStep rate inner (Delay frames feedback mix owned) r = delayStage frames feedback mix inner r
 
 -- ---- stages one after another: f has the front, and g has f's frame and the rest
 
@@ -75,25 +75,25 @@ inTurn lines places f g r =
 
 -- The stages from i up to e, while there is depth left. `starts` says where lines start, and n is at least how many stages there are.
 unfoldable pub spanOf : ℕ → ℕ → ℕ → List Stage → List ℕ → ℕ → ℕ → Ran → Ran
-unfolding stageOf inTurn
+unfolding stageStep inTurn
 spanOf zero left rate l starts i e r = r
 spanOf (suc n) zero rate l starts i e r = r
 spanOf (suc n) (suc left) rate l starts i e r =
-    let next = nextOf (stageAt l i) i e in
+    let next = nextPlace (stageAt l i) i e in
     cond (ltb i e)
     (inTurn (sizeOf starts i next) (next - i)
-    (stageOf rate (spanOf n left rate l starts (i + 1) next) (stageAt l i))
+    (stageStep rate (spanOf n left rate l starts (i + 1) next) (stageAt l i))
     (spanOf n (suc left) rate l starts next e)
     r)
     r
 
 -- the stage at i, whose own stages end at e
 unfoldable pub stepOf : ℕ → ℕ → ℕ → List Stage → List ℕ → ℕ → ℕ → Ran → Ran
-unfolding stageOf spanOf
-stepOf n left rate l starts i e r = stageOf rate (spanOf n left rate l starts (i + 1) e) (stageAt l i) r
+unfolding stageStep spanOf
+stepOf n left rate l starts i e r = stageStep rate (spanOf n left rate l starts (i + 1) e) (stageAt l i) r
 
 -- ---- "a step of the stage at a list place", of at most 16 places and with depths down to 3; elsewhere the frame comes back and nothing changes
 
-unfoldable pub placeOf : ℕ → List Stage → List ℕ → ℕ → ℕ → Ran → Ran
+unfoldable pub processAt : ℕ → List Stage → List ℕ → ℕ → ℕ → Ran → Ran
 unfolding stepOf
-placeOf rate l starts i e r = cond (ltb i e && leb e 16) (stepOf 16 3 rate l starts i e r) r
+processAt rate l starts i e r = cond (ltb i e && leb e 16) (stepOf 16 3 rate l starts i e r) r

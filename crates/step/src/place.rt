@@ -1,7 +1,7 @@
 // A step of the stage at a list place.
 ghost use mathlib.Core.Path.{_≡_};
 ghost use Rattle.line.specs.Held.{holds, ran};
-ghost use Rattle.step.specs.Step.{placeOf};
+ghost use Rattle.step.specs.Step.{processAt};
 use crate::delay::step;
 use frame::Frame;
 use stage::kind::Stage;
@@ -21,7 +21,7 @@ pub fn process(
     floats: &mut [f32],
 ) -> Frame
     ensures { λ r. ⌜ ran r (holds (now (store .exit)) (now (positions .exit)) (now (floats .exit)))
-        ≡ placeOf rate stages (now (starts .entry)) i e (ran x (holds (now (store .entry)) (now (positions .entry)) (now (floats .entry)))) ⌝ }
+        ≡ processAt rate stages (now (starts .entry)) i e (ran x (holds (now (store .entry)) (now (positions .entry)) (now (floats .entry)))) ⌝ }
 {
     if i >= e {
         return x;

@@ -22,7 +22,7 @@ use Rattle.answer.specs.Answer.{acceptedOf}
 use Rattle.refuse.specs.Shape.{faultyOf}
 use Rattle.refuse.specs.Tops.{topsOf}
 use Rattle.refuse.specs.Refusals.{Row, outOfRange, lostAt, aheadAt, unrunFrom, badSample, stuckOf, chainRows, blockRows, answerOf}
-use Rattle.table.specs.Table.{Faulty, Outside, Lost, Ahead, BadSample, conditions, Clear}
+use Rattle.table.specs.Table.{Faulty, OutOfRange, Lost, Ahead, BadSample, conditions, Clear}
 use Rattle.refuse.proofs.Bools.{true-or-false, not-so, or-none}
 use Rattle.refuse.proofs.Rows.{Refusing, NoRow, no-row, no-row-accepted}
 use Rattle.table.proofs.Stucks.{runs-so, runs-is}
@@ -112,7 +112,7 @@ module _ (rate : ℕ) (l : List Stage) (c floats : ℕ) (samples : List Float) (
         (
           such-none (faultyOf l c) (Faulty l c) (faulty-so l c) (faulty-is l c) c (k .shapes),
           (
-            such-none (outOfRange l) (Outside l) (outside-so l) (outside-is l) c (λ i h q. true≢false (sym (k .settings i h) ∙ q)),
+            such-none (outOfRange l) (OutOfRange l) (outside-so l) (outside-is l) c (λ i h q. true≢false (sym (k .settings i h) ∙ q)),
             (
               le-ltb floats (startOf rate l c) (k .room),
               (

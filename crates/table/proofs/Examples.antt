@@ -14,7 +14,7 @@ use Rattle.reverb.specs.Tuning.{reverbFloats, reverbLines}
 use Rattle.stage.specs.declared.kind.Stage.{Stage}
 use Rattle.stage.specs.declared.kind.Stage.the-variants.{VolumeControl, Reverb, Delay}
 use Rattle.stage.specs.First.{firstFrom}
-use Rattle.stage.specs.Kind.{ownedOf, nextOf}
+use Rattle.stage.specs.Kind.{ownedOf, nextPlace}
 use Rattle.stage.specs.Range.{inRangeOf}
 use Rattle.stage.specs.Layout.{startOf}
 use Rattle.stage.specs.Lines.{lostOf}
@@ -82,7 +82,7 @@ unfolding answerOf numberOf placeOf faultyOf ownedOf firstFrom inRangeOf literal
 reverb-25449 = refl
 
 pub reverb-25450 : told 44100 (reverb ∷ []) 25450 [] [] ≡ accepted
-unfolding answerOf numberOf placeOf faultyOf ownedOf firstFrom inRangeOf literal le finiteOf startOf reverbFloats lostOf reverbLines topsOf nextOf stuckOf
+unfolding answerOf numberOf placeOf faultyOf ownedOf firstFrom inRangeOf literal le finiteOf startOf reverbFloats lostOf reverbLines topsOf nextPlace stuckOf
 reverb-25450 = refl
 
 -- ---- a delay of a frame too many
@@ -96,7 +96,7 @@ unfolding answerOf numberOf placeOf faultyOf ownedOf firstFrom
 owned-most = refl
 
 pub depth-3 : told 44100 (delay 1 3 ∷ delay 1 2 ∷ delay 1 1 ∷ volume ∷ []) 6 [] [] ≡ accepted
-unfolding answerOf numberOf placeOf faultyOf ownedOf firstFrom inRangeOf startOf lostOf topsOf nextOf finiteOf stuckOf
+unfolding answerOf numberOf placeOf faultyOf ownedOf firstFrom inRangeOf startOf lostOf topsOf nextPlace finiteOf stuckOf
 depth-3 = refl
 
 pub depth-4 : told 44100 (delay 1 4 ∷ delay 1 3 ∷ delay 1 2 ∷ delay 1 1 ∷ volume ∷ []) 8 [] [] ≡ given 3 4

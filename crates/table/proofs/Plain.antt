@@ -23,7 +23,7 @@ use Rattle.stage.specs.Range.{inRangeOf}
 use Rattle.stage.proofs.Firsts.{first-is, first-clear, some-hit, some-less, some-so, none-clear}
 use Rattle.refuse.specs.Shape.{lastOf, ownsOf, outgrows, depthOf, faultyOf}
 use Rattle.refuse.specs.Refusals.{outOfRange, lostAt, aheadAt, badSample}
-use Rattle.table.specs.Table.{First, Faulty, Outside, Lost, Ahead, BadSample}
+use Rattle.table.specs.Table.{First, Faulty, OutOfRange, Lost, Ahead, BadSample}
 use Rattle.refuse.proofs.Bools.{or-so, or-is, and-so, and-is, not-so}
 
 -- ---- the first of a test is the first in plain logic
@@ -88,10 +88,10 @@ module _ (l : List Stage) (c : ℕ) where
 
 -- ---- 4
 module _ (l : List Stage) where
-  pub outside-so : (i : ℕ) → outOfRange l i ≡ true → Outside l i
+  pub outside-so : (i : ℕ) → outOfRange l i ≡ true → OutOfRange l i
   outside-so i h = not-true (inRangeOf (stageAt l i)) h
 
-  pub outside-is : (i : ℕ) → Outside l i → outOfRange l i ≡ true
+  pub outside-is : (i : ℕ) → OutOfRange l i → outOfRange l i ≡ true
   outside-is i h = ap not h
 
 -- ---- 6: a place has 24 positions, and no stage has more lines

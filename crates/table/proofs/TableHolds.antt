@@ -19,7 +19,7 @@ use Rattle.answer.specs.Answer.{numberOf, placeOf, acceptedOf}
 use Rattle.refuse.specs.Shape.{faultyOf}
 use Rattle.refuse.specs.Tops.{topsOf}
 use Rattle.refuse.specs.Refusals.{Row, row, firstRow, outOfRange, lostAt, aheadAt, unrunFrom, badSample, stuckOf, chainRows, blockRows, chainAnswer, answerOf}
-use Rattle.table.specs.Table.{First, Faulty, Outside, Lost, Ahead, BadSample, Stuck, chainConditions, blockConditions, conditions, Applies, Given, ByTheTable}
+use Rattle.table.specs.Table.{First, Faulty, OutOfRange, Lost, Ahead, BadSample, Stuck, chainConditions, blockConditions, conditions, Applies, Given, ByTheTable}
 use Rattle.refuse.proofs.Bools.{true-or-false}
 use Rattle.table.proofs.Stucks.{stuck-so, stuck-is}
 use Rattle.table.proofs.Plain.{first-hit, first-only, either-so, either-is, faulty-so, faulty-is, outside-so, outside-is, lost-so, lost-is, ahead-so, ahead-is, bad-so, bad-is}
@@ -44,7 +44,7 @@ module _ (rate : ℕ) (l : List Stage) (c : ℕ) where
       (
         first-row refl refl (faultyOf l c) (Faulty l c) (faulty-so l c) (faulty-is l c) c refl,
         (
-          first-row refl refl (outOfRange l) (Outside l) (outside-so l) (outside-is l) c refl,
+          first-row refl refl (outOfRange l) (OutOfRange l) (outside-so l) (outside-is l) c refl,
           (plain-row refl refl refl (ltb-true floats (startOf rate l c)) (lt-ltb floats (startOf rate l c)), tt),
         ),
       ),

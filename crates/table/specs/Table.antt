@@ -31,8 +31,8 @@ abbrev pub Faulty : List Stage → ℕ → ℕ → Type 0
 Faulty l c i = (c ≤ lastOf l i) ⊎ (((j : ℕ) × (j < i) × (i ≤ lastOf l j) × (lastOf l j < lastOf l i)) ⊎ (3 < depthOf l i i))
 
 -- 4: a setting of the stage at i is not finite or not in its range
-abbrev pub Outside : List Stage → ℕ → Type 0
-Outside l i = inRangeOf (stageAt l i) ≡ false
+abbrev pub OutOfRange : List Stage → ℕ → Type 0
+OutOfRange l i = inRangeOf (stageAt l i) ≡ false
 
 -- 6: a remembered position of the stage at i is not below its line's length
 abbrev pub Lost : ℕ → List Stage → List ℕ → ℕ → Type 0
@@ -64,7 +64,7 @@ chainConditions rate l c floats =
     (λ place. ((rate < 8000) ⊎ (192000 < rate)) × (place ≡ 0))
     ∷ (λ place. (16 < c) × (place ≡ 0))
     ∷ (λ place. First (Faulty l c) c place)
-    ∷ (λ place. First (Outside l) c place)
+    ∷ (λ place. First (OutOfRange l) c place)
     ∷ (λ place. (floats < startOf rate l c) × (place ≡ startOf rate l c))
     ∷ []
 

@@ -18,7 +18,7 @@ use lib.Ieee.Exact.{HasValue, round-exact}
 use lib.Ieee.Nearest.{closest, closest-same}
 use Rattle.rounding.proofs.Compare.{Tells, tells}
 use Rattle.wav.specs.Whole.{NearestWhole}
-use Rattle.wav.specs.Sample.{inOf, stepsOf, heldOf, outOf}
+use Rattle.wav.specs.Sample.{sampleIn, stepsOf, heldOf, sampleOut}
 use Rattle.wav.specs.Bytes.{twoAt, signedOf, codeOf}
 use Rattle.wav.specs.Frames.{sampleAt, samplesOf, lowOf, highOf, bytesOf}
 use Rattle.wav.proofs.Blocks.{samples-length}
@@ -53,12 +53,12 @@ steps-nearest m e = closest-whole (m * up e * 32768) (down e) (down-pos e)
 exact : (s : Bool) (n : ℕ) → n ≤ 32768 → HasValue (round binary32 s n 32768) s n 32768
 exact s n h = round-exact binary32 s n 32768 n 134 (lit< tt) (omega arith) (lt-of-le-of-lt (mul-le-mul-right (2 ^ 134) h) (lit< tt)) (sym (mul-assoc n (2 ^ 134) 32768))
 
-pub in-exact-above : (n : ℕ) → n < 32768 → HasValue (inOf (pos n)) false n 32768
-unfolding inOf
+pub in-exact-above : (n : ℕ) → n < 32768 → HasValue (sampleIn (pos n)) false n 32768
+unfolding sampleIn
 in-exact-above n h = exact false n (omega arith)
 
-pub in-exact-below : (n : ℕ) → n < 32768 → HasValue (inOf (negsuc n)) true (suc n) 32768
-unfolding inOf
+pub in-exact-below : (n : ℕ) → n < 32768 → HasValue (sampleIn (negsuc n)) true (suc n) 32768
+unfolding sampleIn
 in-exact-below n h = exact true (suc n) (omega arith)
 
 -- ---- there and back
@@ -71,16 +71,16 @@ whole-steps n h = ap (λ (k : ℕ). min k 32768) (closest-same (n * 32768) 32768
     kept : (n : ℕ) → n ≤ 32768 → min n 32768 ≡ n
     kept n h = omega arith
 
-back : (v : Float) (s : Bool) (n : ℕ) → n ≤ 32768 → HasValue v s n 32768 → outOf v ≡ heldOf s n
-unfolding outOf
+back : (v : Float) (s : Bool) (n : ℕ) → n ≤ 32768 → HasValue v s n 32768 → sampleOut v ≡ heldOf s n
+unfolding sampleOut
 back v s n h x =
     ap (λ (b : Bool). heldOf b (stepsOf v)) (value-sign s n 32768 (lit< tt) v x)
     ∙ ap (heldOf s) (value-steps s n 32768 (lit< tt) v x ∙ whole-steps n h)
 
 -- every 16-bit sample in and out again is itself
-pub there-and-back : (z : ℤ) → mag z < 32768 → outOf (inOf z) ≡ z
-there-and-back (pos n) h = back (inOf (pos n)) false n (omega arith) (in-exact-above n h) ∙ sym (sg.above-is n h)
-there-and-back (negsuc n) h = back (inOf (negsuc n)) true (suc n) (omega arith) (in-exact-below n h) ∙ sym (sg.below-is (suc n) (λ e. omega arith)) ∙ ap negsuc (less n)
+pub there-and-back : (z : ℤ) → mag z < 32768 → sampleOut (sampleIn z) ≡ z
+there-and-back (pos n) h = back (sampleIn (pos n)) false n (omega arith) (in-exact-above n h) ∙ sym (sg.above-is n h)
+there-and-back (negsuc n) h = back (sampleIn (negsuc n)) true (suc n) (omega arith) (in-exact-below n h) ∙ sym (sg.below-is (suc n) (λ e. omega arith)) ∙ ap negsuc (less n)
   where
     less : (n : ℕ) → suc n - 1 ≡ n
     less n = omega arith
@@ -99,7 +99,7 @@ unfolding twoAt
 two-small bytes small i = omega (arith, small i, small (i + 1))
 
 module _ (bytes : List ℕ) (small : (i : ℕ) → getD bytes i 0 < 256) where
-  pub code-there : (i : ℕ) → codeOf (outOf (sampleAt bytes i)) ≡ twoAt bytes (2 * i)
+  pub code-there : (i : ℕ) → codeOf (sampleOut (sampleAt bytes i)) ≡ twoAt bytes (2 * i)
   unfolding sampleAt
   code-there i =
       let c = twoAt bytes (2 * i) in

@@ -14,7 +14,7 @@ use mir.Syntax.{w16}
 use mir.Val.{toZ, ofZ}
 use mir.Facts.{toZ-ofZ}
 use Rattle.wav.specs.Bytes.{signedOf, codeOf}
-use Rattle.wav.specs.Sample.{stepsOf, negative, heldOf, outOf}
+use Rattle.wav.specs.Sample.{stepsOf, negative, heldOf, sampleOut}
 
 -- what is written and read back
 pub came : {z y : ℤ} → z ≡ y → mag y < 32768 → toZ w16 (ofZ w16 z) ≡ y
@@ -79,8 +79,8 @@ signed-small n h = go (ltb n 32768) refl
     go false e = let l = ltb-false n 32768 e in omega arith
 
 -- what a sample is written as has 16 bits
-pub out-small : (x : Float) → mag (outOf x) < 32768
-unfolding outOf stepsOf
+pub out-small : (x : Float) → mag (sampleOut x) < 32768
+unfolding sampleOut stepsOf
 out-small x = held-small (negative x) (stepsOf x) (few x)
   where
     less : (n : ℕ) → min n 32768 ≤ 32768

@@ -20,7 +20,7 @@ use mir.Syntax.{w16}
 use mir.Val.{toZ, ofZ}
 use Rattle.rounding.proofs.Narrowing.{closest-le, one-shl}
 use Rattle.rounding.proofs.Rounding.{low-field, high-field}
-use Rattle.wav.specs.Sample.{inOf, stepsOf, negative, heldOf, outOf}
+use Rattle.wav.specs.Sample.{sampleIn, stepsOf, negative, heldOf, sampleOut}
 use Rattle.wav.proofs.Signed.{came, held-small}
 
 -- ---- of a value a / c
@@ -151,8 +151,8 @@ doubled field h l =
 -- ---- of a float with these bits
 
 -- the sign is that of the pattern; NaN has none, and 0 steps
-signed-steps : (s : Bool) (x t : ℕ) → x < 256 → outOf (ofFields binary32 s x t) ≡ heldOf s (stepsOf (ofFields binary32 s x t))
-unfolding outOf negative stepsOf heldOf ofFields
+signed-steps : (s : Bool) (x t : ℕ) → x < 256 → sampleOut (ofFields binary32 s x t) ≡ heldOf s (stepsOf (ofFields binary32 s x t))
+unfolding sampleOut negative stepsOf heldOf ofFields
 signed-steps s zero t h = ap (λ (b : Bool). heldOf b (stepsOf (ofFields binary32 s 0 t))) (value-sign s (t * 2 ^ 0) (2 ^ 149) (pow-pos 149) (ofFields binary32 s 0 t) (low-field binary32 s t))
 signed-steps s (suc x) t h = go (eqb (suc x) 255) refl
   where
@@ -172,14 +172,14 @@ signed-steps s (suc x) t h = go (eqb (suc x) 255) refl
     go false e = ap (λ (b : Bool). heldOf b (stepsOf (ofFields binary32 s (suc x) t))) (value-sign s ((2 ^ 23 + t) * 2 ^ x) (2 ^ 149) (pow-pos 149) (ofFields binary32 s (suc x) t) (high-field binary32 s x t (lt-of-le-ne (omega arith) (eqb-false (suc x) 255 e))))
 
 -- of a float x with the bits b, whose sign is s: the number z that the code gives
-pub bits-out : (x : Float) (b n : ℕ) (z : ℤ) (s : Bool) → T (fits binary32 x) → b ≡ toBits binary32 x → leb (2 ^ 31) b ≡ s → Steps (b % 2 ^ 31 / 2 ^ 23) (b % 2 ^ 23) n → n ≤ 32768 → z ≡ heldOf s n → toZ w16 (ofZ w16 z) ≡ outOf x
+pub bits-out : (x : Float) (b n : ℕ) (z : ℤ) (s : Bool) → T (fits binary32 x) → b ≡ toBits binary32 x → leb (2 ^ 31) b ≡ s → Steps (b % 2 ^ 31 / 2 ^ 23) (b % 2 ^ 23) n → n ≤ 32768 → z ≡ heldOf s n → toZ w16 (ofZ w16 z) ≡ sampleOut x
 unfolding ofBits
 bits-out x b n z s t f e h l g =
     came g (held-small s n l)
     ∙ ap (heldOf s) (h s)
     ∙ sym (signed-steps s (b % 2 ^ 31 / 2 ^ 23) (b % 2 ^ 23) (omega arith))
-    ∙ ap (λ (v : Bool). outOf (ofFields binary32 v (b % 2 ^ 31 / 2 ^ 23) (b % 2 ^ 23))) (sym e)
-    ∙ ap outOf (ap (ofBits binary32) f ∙ ofBits-toBits binary32 x t)
+    ∙ ap (λ (v : Bool). sampleOut (ofFields binary32 v (b % 2 ^ 31 / 2 ^ 23) (b % 2 ^ 23))) (sym e)
+    ∙ ap sampleOut (ap (ofBits binary32) f ∙ ofBits-toBits binary32 x t)
 
 -- ---- a sample in: a whole number of at most 16 bits is a float, so only the division could round
 quotient : (s : Bool) (n : ℕ) → n ≤ 32768 → div binary32 (round binary32 s n 1) (fin false 1 (pos 15)) ≡ round binary32 s n 32768
@@ -198,7 +198,7 @@ quotient s n h = go (round binary32 s n 1) (round-exact binary32 s n 1 n 149 (li
         ∙ round-same binary32 s (m * up e * 1) (1 * 2 ^ 15 * down e) n 32768 (mul-pos (lit< tt) (down-pos e)) (lit< tt)
         (ap (λ (k : ℕ). k * 32768) (v .1) ∙ mul-assoc n (down e) 32768 ∙ ap (λ (k : ℕ). n * k) (mul-comm (down e) 32768))
 
-pub in-is : (z : ℤ) → mag z < 32768 → div binary32 (ofInt binary32 z) (ofBits binary32 1191182336) ≡ inOf z
-unfolding ofBits ofInt inOf
+pub in-is : (z : ℤ) → mag z < 32768 → div binary32 (ofInt binary32 z) (ofBits binary32 1191182336) ≡ sampleIn z
+unfolding ofBits ofInt sampleIn
 in-is (pos n) h = quotient false n (omega arith)
 in-is (negsuc n) h = quotient true (suc n) (omega arith)

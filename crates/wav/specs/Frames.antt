@@ -3,17 +3,17 @@ use Prim.Native.Nat.{ℕ, zero, suc, _*_, _/_, _%_, min}
 use mathlib.Core.List.{List, [], _∷_, _++_}
 use lib.ListN.{length, drop, getD}
 use lib.Ieee.{Float, nan}
-use Rattle.wav.specs.Sample.{inOf, outOf}
+use Rattle.wav.specs.Sample.{sampleIn, sampleOut}
 use Rattle.wav.specs.Bytes.{twoAt, signedOf, codeOf}
 
 -- how many whole frames these bytes and these samples both hold
-unfoldable pub framesOf : List ℕ → List Float → ℕ
-framesOf bytes samples = min (length bytes / 4) (length samples / 2)
+unfoldable pub wholeFrames : List ℕ → List Float → ℕ
+wholeFrames bytes samples = min (length bytes / 4) (length samples / 2)
 
 -- sample i of the bytes
 unfoldable pub sampleAt : List ℕ → ℕ → Float
-unfolding inOf signedOf twoAt
-sampleAt bytes i = inOf (signedOf (twoAt bytes (2 * i)))
+unfolding sampleIn signedOf twoAt
+sampleAt bytes i = sampleIn (signedOf (twoAt bytes (2 * i)))
 
 -- the first n samples of the bytes
 unfoldable pub samplesOf : List ℕ → ℕ → List Float
@@ -23,12 +23,12 @@ samplesOf bytes (suc n) = samplesOf bytes n ++ (sampleAt bytes n ∷ [])
 
 -- a sample's two bytes
 unfoldable pub lowOf : Float → ℕ
-unfolding outOf codeOf
-lowOf x = codeOf (outOf x) % 256
+unfolding sampleOut codeOf
+lowOf x = codeOf (sampleOut x) % 256
 
 unfoldable pub highOf : Float → ℕ
-unfolding outOf codeOf
-highOf x = codeOf (outOf x) / 256
+unfolding sampleOut codeOf
+highOf x = codeOf (sampleOut x) / 256
 
 -- the bytes of the first n samples
 unfoldable pub bytesOf : List Float → ℕ → List ℕ
@@ -38,9 +38,9 @@ bytesOf samples (suc n) = bytesOf samples n ++ (lowOf (getD samples n nan) ∷ h
 
 -- what `frames_in` leaves of the samples, and `frames_out` of the bytes
 unfoldable pub samplesIn : List ℕ → List Float → List Float
-unfolding framesOf samplesOf
-samplesIn bytes samples = let n = 2 * framesOf bytes samples in samplesOf bytes n ++ drop n samples
+unfolding wholeFrames samplesOf
+samplesIn bytes samples = let n = 2 * wholeFrames bytes samples in samplesOf bytes n ++ drop n samples
 
 unfoldable pub bytesOut : List Float → List ℕ → List ℕ
-unfolding framesOf bytesOf
-bytesOut samples bytes = let n = 2 * framesOf bytes samples in bytesOf samples n ++ drop (2 * n) bytes
+unfolding wholeFrames bytesOf
+bytesOut samples bytes = let n = 2 * wholeFrames bytes samples in bytesOf samples n ++ drop (2 * n) bytes

@@ -9,13 +9,13 @@ use Rattle.wav.specs.declared.header.Header.the-variants.{Read, Names, F
 use Rattle.wav.specs.Bytes.{twoAt, fourAt}
 
 -- document 01's number; 0 for a header that is read
-unfoldable pub numberOf : Header → ℕ
-numberOf (Read rate size) = 0
-numberOf Names = 21
-numberOf Format = 22
-numberOf Rate = 23
-numberOf Size = 24
-numberOf Short = 25
+unfoldable pub headerNumber : Header → ℕ
+headerNumber (Read rate size) = 0
+headerNumber Names = 21
+headerNumber Format = 22
+headerNumber Rate = 23
+headerNumber Size = 24
+headerNumber Short = 25
 
 -- ---- the layout: the place at which each field starts, in the order of a file, and the length of the whole
 pub record Layout : Type 0 where

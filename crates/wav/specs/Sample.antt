@@ -8,10 +8,10 @@ use lib.Ieee.{Float, nan, inf, fin, binary32, up, down, round}
 use lib.Ieee.Nearest.{closest}
 
 -- s / 32768, as a float
-unfoldable pub inOf : ℤ → Float
+unfoldable pub sampleIn : ℤ → Float
 unfolding round
-inOf (pos n) = round binary32 false n 32768
-inOf (negsuc n) = round binary32 true (suc n) 32768
+sampleIn (pos n) = round binary32 false n 32768
+sampleIn (negsuc n) = round binary32 true (suc n) 32768
 
 -- the whole number nearest to 32768 |x|, a tie to the even one, and held to 32768; 0 for NaN
 unfoldable pub stepsOf : Float → ℕ
@@ -29,6 +29,6 @@ unfoldable pub heldOf : Bool → ℕ → ℤ
 heldOf true n = negℤ (pos n)
 heldOf false n = pos (min n 32767)
 
-unfoldable pub outOf : Float → ℤ
+unfoldable pub sampleOut : Float → ℤ
 unfolding stepsOf negative heldOf
-outOf x = heldOf (negative x) (stepsOf x)
+sampleOut x = heldOf (negative x) (stepsOf x)

@@ -2,7 +2,7 @@
 ghost use mathlib.Core.Path.{_≡_};
 ghost use Prim.Native.Nat.{_+_, _*_, _<_, min};
 ghost use lib.ListN.{length, set};
-ghost use Rattle.wav.specs.Frames.{framesOf, sampleAt, lowOf, highOf, samplesIn, bytesOut};
+ghost use Rattle.wav.specs.Frames.{wholeFrames, sampleAt, lowOf, highOf, samplesIn, bytesOut};
 use crate::bytes::code;
 use crate::bytes::signed;
 use crate::bytes::two_at;
@@ -24,7 +24,7 @@ fn sample_at(bytes: &[u8], i: usize) -> f32
 
 // Bytes become samples: as many whole frames as both have room for, and the answer is that count.
 pub fn frames_in(bytes: &[u8], samples: &mut [f32]) -> usize
-    ensures { λ r. ⌜ (r ≡ framesOf (now (bytes .entry)) (now (samples .entry))) × (now (samples .exit) ≡ samplesIn (now (bytes .entry)) (now (samples .entry))) ⌝ }
+    ensures { λ r. ⌜ (r ≡ wholeFrames (now (bytes .entry)) (now (samples .entry))) × (now (samples .exit) ≡ samplesIn (now (bytes .entry)) (now (samples .entry))) ⌝ }
 {
     let frames = lesser(bytes.len() / 4, samples.len() / 2);
     let n = 2 * frames;
@@ -47,7 +47,7 @@ fn put_sample(bytes: &mut [u8], i: usize, x: f32)
 
 // Samples become bytes, in the same way.
 pub fn frames_out(samples: &[f32], bytes: &mut [u8]) -> usize
-    ensures { λ r. ⌜ (r ≡ framesOf (now (bytes .entry)) (now (samples .entry))) × (now (bytes .exit) ≡ bytesOut (now (samples .entry)) (now (bytes .entry))) ⌝ }
+    ensures { λ r. ⌜ (r ≡ wholeFrames (now (bytes .entry)) (now (samples .entry))) × (now (bytes .exit) ≡ bytesOut (now (samples .entry)) (now (bytes .entry))) ⌝ }
 {
     let frames = lesser(bytes.len() / 4, samples.len() / 2);
     let n = 2 * frames;

@@ -2,7 +2,7 @@
 ghost use mathlib.Core.Path.{_≡_};
 ghost use Prim.Native.Nat.{_≤_};
 ghost use lib.ListN.{length};
-ghost use Rattle.wav.specs.Header.{numberOf, namesRight, formatRight, rateRight, headerOf};
+ghost use Rattle.wav.specs.Header.{headerNumber, namesRight, formatRight, rateRight, headerOf};
 use crate::bytes::four_at;
 use crate::bytes::two_at;
 
@@ -32,7 +32,7 @@ pub enum Header {
 
 // Document 01's number of a refusal, and 0 for a header that is read.
 pub fn number(header: Header) -> u32
-    ensures { λ r. ⌜ r ≡ numberOf header ⌝ }
+    ensures { λ r. ⌜ r ≡ headerNumber header ⌝ }
 {
     match header {
         Header::Read { rate: _, size: _ } => 0,

@@ -5,11 +5,11 @@ ghost use Prim.Native.Nat.{_*_, _^_, _≤_, _<_};
 ghost use lib.Ieee.{binary32, ofFields};
 ghost use lib.Ieee.Nearest.{closest};
 ghost use lib.IntN.{negsuc};
-ghost use Rattle.wav.specs.Sample.{inOf, outOf, stepsOf, heldOf};
+ghost use Rattle.wav.specs.Sample.{sampleIn, sampleOut, stepsOf, heldOf};
 use float::bits::to_bits_f32;
 
 pub fn sample_in(s: i16) -> f32
-    ensures { λ r. ⌜ r ≡ inOf s ⌝ }
+    ensures { λ r. ⌜ r ≡ sampleIn s ⌝ }
 {
     (s as f32) / 32768.0
 }
@@ -67,7 +67,7 @@ fn below_zero(n: u64) -> i16
 }
 
 pub fn sample_out(x: f32) -> i16
-    ensures { λ r. ⌜ r ≡ outOf x ⌝ }
+    ensures { λ r. ⌜ r ≡ sampleOut x ⌝ }
 {
     let bits = to_bits_f32(x) as u64;
     let n = steps(bits % 0x8000_0000 / 0x80_0000, bits % 0x80_0000);

@@ -37,7 +37,7 @@ use denote.Triple.Table.{entered, cited}
 use denote.Triple.Walked.{says, Stays, hasOf, walkOf, Walks, ends-at, walked, walk-meets}
 use denote.Triple.End.{all}
 use denote.Exit.{yes}
-use Rattle.integrators.specs.Integrators.{stepOf}
+use Rattle.integrators.specs.Integrators.{steppedOf}
 use Rattle.integrators.specs.declared.Integrators.{Integrators}
 use Rattle.integrators.specs.declared.Parts.{Parts}
 use Rattle.integrators.specs.declared.Stepped.{Stepped}
@@ -77,7 +77,7 @@ module _ {M : Type 1} (𝓤 : URA M) (H : Heap 𝓤) (A : Atoms 𝓤) (W : Given
   i = a .1 .1
 
   abbrev s : Stepped
-  s = stepOf h (i .0) (i .1 .0) (i .1 .1 .0) (i .1 .1 .1 .0)
+  s = steppedOf h (i .0) (i .1 .0) (i .1 .1 .0) (i .1 .1 .1 .0)
 
   h-is : Known integrators h
   h-is = owes I.the-type I′.the-laws h (are .0, (are .1 .0, tt))

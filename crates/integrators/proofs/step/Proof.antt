@@ -1,8 +1,8 @@
--- `step` gives what `stepOf` says: each call's promise is put in, the last call first, and the literal 2.0 is read by computation.
+-- `step` gives what `steppedOf` says: each call's promise is put in, the last call first, and the literal 2.0 is read by computation.
 use borrow.Author.Needs.{needs}
 use lib.Ieee.{ofBits, round}
 use Rattle.float.specs.Literal.{literal}
-use Rattle.integrators.specs.Integrators.{stepOf}
+use Rattle.integrators.specs.Integrators.{steppedOf}
 use Rattle.integrators.proofs.step.Statement.{statement}
 use Rattle.integrators.proofs.step.Tie as tie
 
@@ -43,7 +43,7 @@ sub-requires-3 : tie.Need-sub-requires-3
 sub-requires-3 c κs = search needs
 
 returns : tie.Need-returns
-unfolding stepOf literal round ofBits
+unfolding steppedOf literal round ofBits
 returns c =
     rw (c .sub3 .ensures, c .before .mul6 .ensures, c .before .before .sub2 .ensures, c .before .before .before .mul5 .ensures, c .before .before .before .before .add3 .ensures, c .before .before .before .before .before .mul4 .ensures, c .before .before .before .before .before .before .add2 .ensures, c .before .before .before .before .before .before .before .mul3 .ensures, c .before .before .before .before .before .before .before .before .add .ensures, c .before .before .before .before .before .before .before .before .before .mul2 .ensures, c .before .before .before .before .before .before .before .before .before .before .mul .ensures, c .before .before .before .before .before .before .before .before .before .before .before .sub .ensures)
 

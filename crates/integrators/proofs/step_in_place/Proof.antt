@@ -36,7 +36,7 @@ use denote.Triple.Table.{entered, cited}
 use denote.Triple.Walked.{says, Stays, stay-ref, hasOf, walkOf, goes-ref, Walks, ends-at, walked, walk-meets}
 use denote.Triple.End.{all}
 use denote.Exit.{yes}
-use Rattle.integrators.specs.Integrators.{stepOf}
+use Rattle.integrators.specs.Integrators.{steppedOf}
 use Rattle.integrators.specs.declared.Integrators.{Integrators}
 use Rattle.integrators.specs.declared.Stepped.{Stepped}
 use Rattle.integrators.proofs.Plain.{Known, has, opened, closed, rows, spells, all-tell, vals, Knowns, slots, gone, all-lawful, own-all, gone-go, none-left}
@@ -69,7 +69,7 @@ module _ {M : Type 1} (𝓤 : URA M) (H : Heap 𝓤) (A : Atoms 𝓤) (W : Given
   at = (vptr b o ∷ [], vals input i)
 
   abbrev s : Stepped
-  s = stepOf h (i .0) (i .1 .0) (i .1 .1 .0) (i .1 .1 .1 .0)
+  s = steppedOf h (i .0) (i .1 .0) (i .1 .1 .0) (i .1 .1 .1 .0)
 
   typed : Typed (mirs (rows input)) (flat (rows input) (vals input i))
   typed = all-typed 𝓤 H A (rows input) (all-lawful 𝓤 H A W input) i (vals input i) are

@@ -9,7 +9,7 @@ use borrow.Fn.PlainCycle.{Measures, is, falls, and}
 use denote.Ref.{now}
 use lib.ListN.{length, set, drop, length-set}
 use lib.Seq.{length-take-le}
-use Rattle.reverb.specs.Tuning.{combTunings, allPassTunings, floatsOf}
+use Rattle.reverb.specs.Tuning.{combTunings, allPassTunings, tuningFloats}
 use Rattle.line.proofs.Lent.{lent-length}
 use Rattle.reverb.proofs.InTurn.{combs-none, combs-more}
 use Rattle.reverb.proofs.Tunings.{comb-floats}
@@ -37,7 +37,7 @@ combs-calls t = (passes-reads.Asked, passes-reads.Learnt, line-of-reads.Asked, l
 -- the kth line, and those after it, have room in the store
 room : (t : ℕ) (c : combs-lts.After-line-of (combs-calls t) (combs-at t) combs.Post)
     → let a = c .before .before .before .before .before .args in
-    c .line-of .result + floatsOf (a .spread) (a .rate) (drop (a .k + 1) combTunings) + floatsOf (a .spread) (a .rate) allPassTunings ≤ length (now (a .store))
+    c .line-of .result + tuningFloats (a .spread) (a .rate) (drop (a .k + 1) combTunings) + tuningFloats (a .spread) (a .rate) allPassTunings ≤ length (now (a .store))
 room t c = omega (arith, comb-floats _ _ _ (c .before .before .before .before .before .args .k) (omega arith) (c .line-of .ensures .0))
 
 combs-met : {M : Type 1} (t : ℕ) → combs-lts.Closed (combs-calls t) (combs-at t) combs.Post M

@@ -9,7 +9,7 @@ use denote.Ref.{now}
 use lib.ListN.{length, set, drop, length-set}
 use mathlib.Core.List.{_++_}
 use lib.Seq.{length-take-le}
-use Rattle.reverb.specs.Tuning.{allPassTunings, floatsOf}
+use Rattle.reverb.specs.Tuning.{allPassTunings, tuningFloats}
 use Rattle.line.proofs.Lent.{lent-length}
 use Rattle.reverb.proofs.InTurn.{passes-none, passes-more}
 use Rattle.reverb.proofs.Tunings.{all-pass-floats}
@@ -36,7 +36,7 @@ passes-calls t = (line-of-reads.Asked, line-of-reads.Learnt, process-reads.Asked
 -- the kth line, and those after it, have room in the store
 room : (t : ℕ) (c : passes-lts.After-line-of (passes-calls t) (passes-at t) passes.Post)
     → let a = c .before .before .before .before .args in
-    c .line-of .result + floatsOf (a .spread) (a .rate) (drop (a .k + 1) allPassTunings) ≤ length (now (a .store))
+    c .line-of .result + tuningFloats (a .spread) (a .rate) (drop (a .k + 1) allPassTunings) ≤ length (now (a .store))
 room t c = omega (arith, all-pass-floats _ _ _ (c .before .before .before .before .args .k) (omega arith) (c .line-of .ensures .0))
 
 passes-met : {M : Type 1} (t : ℕ) → passes-lts.Closed (passes-calls t) (passes-at t) passes.Post M

@@ -10,7 +10,7 @@ use lib.ListN.{length, drop}
 use lib.Seq.{length-take-le}
 use Rattle.float.specs.Literal.{literal}
 use Rattle.line.specs.Held.{holds}
-use Rattle.reverb.specs.Tuning.{tunings, floatsOf}
+use Rattle.reverb.specs.Tuning.{tunings, tuningFloats}
 use Rattle.reverb.proofs.Tunings.{side-floats-are, reverb-floats-are}
 use Rattle.line.proofs.Lent.{lent-length}
 use Rattle.reverb.proofs.Sides.{no-store, no-positions, no-floats, both-sides}
@@ -29,7 +29,7 @@ calls = (reverb-floats-reads.Asked, reverb-floats-reads.Learnt, side-floats-read
 
 -- both sides have room in the store
 room : (c : process-lts.After-side-floats (calls) reads.Pre reads.Post)
-    → c .side-floats .result + floatsOf 23 (c .before .before .before .before .before .before .before .before .before .args .rate) tunings ≤ length (now (c .before .before .before .before .before .before .before .before .before .args .store))
+    → c .side-floats .result + tuningFloats 23 (c .before .before .before .before .before .before .before .before .before .args .rate) tunings ≤ length (now (c .before .before .before .before .before .before .before .before .before .args .store))
 room c = omega (arith, reverb-floats-are (c .before .before .before .before .before .before .before .before .before .args .rate), c .before .before .before .before .before .reverb-floats .ensures, c .side-floats .ensures .0)
 
 reverb-floats-requires : tie.Need-reverb-floats-requires

@@ -3,7 +3,7 @@ use mathlib.Core.Path.{sym}
 use native.Mathlib.Omega.{arith}
 use borrow.Author.Needs.{needs}
 use lib.Seq.{length-take-le}
-use Rattle.wav.specs.Frames.{framesOf}
+use Rattle.wav.specs.Frames.{wholeFrames}
 use Rattle.wav_stream.proofs.block.Statement.{statement}
 use Rattle.wav_stream.proofs.block.Tie as tie
 
@@ -23,14 +23,14 @@ frames-in-requires : tie.Need-frames-in-requires
 frames-in-requires c κs = search needs
 
 render-block-requires : tie.Need-render-block-requires
-unfolding framesOf
+unfolding wholeFrames
 render-block-requires c κs = (omega (arith, c .before .before .before .before .frames-in .ensures .0), omega (arith, c .before .before .before .samples .given))
 
 number-requires : tie.Need-number-requires
 number-requires c κs = search needs
 
 write-block-requires : tie.Need-write-block-requires
-unfolding framesOf
+unfolding wholeFrames
 write-block-requires c κs = (omega (arith, c .before .before .before .before .before .before .before .before .before .before .before .before .before .frames-in .ensures .0), omega (arith, c .before .before .before .before .before .before .before .before .before .before .before .before .before .before .before .before .before .bytes .given))
 
 sub-t32 : tie.Need-sub-t32

@@ -8,10 +8,10 @@ use denote.Enum.Declared.{tagOf}
 use types.Run.{OneOf}
 use Rattle.wav.specs.declared.header.Header.{Header}
 use Rattle.wav.specs.declared.header.Header.the-variants.{Read, Names, Format, Rate, Size, Short}
-use Rattle.wav.specs.Header.{numberOf}
+use Rattle.wav.specs.Header.{headerNumber}
 use Rattle.wav.proofs.header.Header.{the-type}
 use Rattle.face.specs.declared.file.WavHeader.{WavHeader}
-use Rattle.face.specs.File.{rateOf, sizeOf, headerOut}
+use Rattle.face.specs.File.{rateOf, dataSizeOf, headerOut}
 use borrow.Author.Needs.{needs}
 use Rattle.face.proofs.file.header_out.Statement.{statement}
 use Rattle.face.proofs.file.header_out.Tie as tie
@@ -26,8 +26,8 @@ positive k (inr (inr (inl e))) = omega arith
 positive k (inr (inr (inr (inl e)))) = omega arith
 positive k (inr (inr (inr (inr e)))) = omega arith
 
-not-read : (h : Header) (n : ℕ) → OneOf (1 ∷ 2 ∷ 3 ∷ 4 ∷ 5 ∷ []) (tagOf the-type h) → n ≡ numberOf h → header n 0 0 ≡ headerOut h
-unfolding headerOut rateOf sizeOf
+not-read : (h : Header) (n : ℕ) → OneOf (1 ∷ 2 ∷ 3 ∷ 4 ∷ 5 ∷ []) (tagOf the-type h) → n ≡ headerNumber h → header n 0 0 ≡ headerOut h
+unfolding headerOut rateOf dataSizeOf
 not-read (Read rate size) n t e = let p : 0 < 0 = positive 0 t in absurd (omega arith)
 not-read Names n t e = ap (λ (k : ℕ). header k 0 0) e
 not-read Format n t e = ap (λ (k : ℕ). header k 0 0) e
@@ -42,7 +42,7 @@ enum-known-given : tie.Need-enum-known-given
 enum-known-given c = search needs
 
 returns : tie.Need-returns
-unfolding headerOut rateOf sizeOf
+unfolding headerOut rateOf dataSizeOf
 returns c = rw (c .before .before .before .number .ensures, c .before .given .given .1)
 
 returns-2 : tie.Need-returns-2

@@ -2,7 +2,7 @@ use Prim.Native.Nat.{_+_, _≤_}
 use native.Mathlib.Omega.{arith}
 use borrow.Author.Needs.{needs}
 use borrow.Author.Tests.{lt-ltb, le-ltb}
-use Rattle.line.specs.Position.{nextOf}
+use Rattle.line.specs.Position.{nextPosition}
 use Rattle.line.proofs.position.next_position.Statement.{statement}
 use Rattle.line.proofs.position.next_position.Tie as tie
 
@@ -13,15 +13,15 @@ add-result : tie.Need-add-result
 add-result c = search needs
 
 returns : tie.Need-returns
-unfolding nextOf
+unfolding nextPosition
 returns c = simp (lt-ltb _ _ (c .if2 .taken))
 
 returns-2 : tie.Need-returns-2
-unfolding nextOf
+unfolding nextPosition
 returns-2 c = simp (le-ltb _ _ (c .if2 .left))
 
 returns-3 : tie.Need-returns-3
-unfolding nextOf
+unfolding nextPosition
 returns-3 c =
     let h : c .before .args .length ≤ c .before .args .at + 1 = omega arith in
     simp (le-ltb _ _ h)

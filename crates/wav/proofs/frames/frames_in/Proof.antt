@@ -6,7 +6,7 @@ use native.Mathlib.Omega.{arith}
 use borrow.Author.Needs.{needs}
 use denote.Ref.{now}
 use lib.ListN.{length, set, drop, length-set}
-use Rattle.wav.specs.Frames.{framesOf, sampleAt, samplesOf, samplesIn}
+use Rattle.wav.specs.Frames.{wholeFrames, sampleAt, samplesOf, samplesIn}
 use Rattle.wav.proofs.Blocks.{samples-none, samples-more}
 use Rattle.wav.proofs.frames.frames_in.Statement.{statement}
 use Rattle.wav.proofs.frames.frames_in.Tie as tie
@@ -53,11 +53,11 @@ same-length : tie.Need-same-length Inv-loop μ-loop
 same-length c = c .before .loop .inv .4
 
 returns : tie.Need-returns Inv-loop μ-loop
-unfolding framesOf samplesIn
+unfolding wholeFrames samplesIn
 returns c =
     let b = now (c .before .before .before .before .before .args .bytes) in
     let xs = now (c .before .before .before .before .before .args .samples) in
-    let e : c .before .loop .i ≡ 2 * framesOf b xs = omega (arith, c .before .before .lesser .ensures) in
+    let e : c .before .loop .i ≡ 2 * wholeFrames b xs = omega (arith, c .before .before .lesser .ensures) in
     (c .before .before .lesser .ensures, c .before .loop .inv .3 ∙ ap (λ n. samplesOf b n ++ drop n xs) e)
 
 pub frames-in-spec : {M : Type 1} → statement M

@@ -7,7 +7,7 @@ use borrow.Author.Needs.{needs}
 use denote.Ref.{now}
 use lib.ListN.{length, set, drop, getD, length-set}
 use lib.Ieee.{nan}
-use Rattle.wav.specs.Frames.{framesOf, lowOf, highOf, bytesOf, bytesOut}
+use Rattle.wav.specs.Frames.{wholeFrames, lowOf, highOf, bytesOf, bytesOut}
 use Rattle.wav.proofs.Blocks.{bytes-none, bytes-more}
 use Rattle.wav.proofs.frames.frames_out.Statement.{statement}
 use Rattle.wav.proofs.frames.frames_out.Tie as tie
@@ -55,11 +55,11 @@ same-length : tie.Need-same-length Inv-loop μ-loop
 same-length c = c .before .loop .inv .4
 
 returns : tie.Need-returns Inv-loop μ-loop
-unfolding framesOf bytesOut
+unfolding wholeFrames bytesOut
 returns c =
     let xs = now (c .before .before .before .before .before .args .samples) in
     let ys = now (c .before .before .before .before .before .args .bytes) in
-    let e : c .before .loop .i ≡ 2 * framesOf ys xs = omega (arith, c .before .before .lesser .ensures) in
+    let e : c .before .loop .i ≡ 2 * wholeFrames ys xs = omega (arith, c .before .before .lesser .ensures) in
     (c .before .before .lesser .ensures, c .before .loop .inv .3 ∙ ap (λ n. bytesOf xs n ++ drop (2 * n) ys) e)
 
 pub frames-out-spec : {M : Type 1} → statement M

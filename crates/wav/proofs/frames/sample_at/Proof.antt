@@ -3,7 +3,7 @@ use mathlib.Core.Path.{ap, _∙_}
 use borrow.Author.Needs.{needs}
 use Rattle.wav.specs.Frames.{sampleAt}
 use Rattle.wav.specs.Bytes.{signedOf}
-use Rattle.wav.specs.Sample.{inOf}
+use Rattle.wav.specs.Sample.{sampleIn}
 use Rattle.wav.proofs.Signed as sg
 use Rattle.wav.proofs.frames.sample_at.Statement.{statement}
 use Rattle.wav.proofs.frames.sample_at.Tie as tie
@@ -24,7 +24,7 @@ returns : tie.Need-returns
 unfolding sampleAt
 returns c =
     let n = c .before .before .two-at in
-    c .sample-in .ensures ∙ ap inOf (sg.came (c .before .signed .ensures) (sg.signed-small (n .result) (n .ensures .1)) ∙ ap signedOf (n .ensures .0))
+    c .sample-in .ensures ∙ ap sampleIn (sg.came (c .before .signed .ensures) (sg.signed-small (n .result) (n .ensures .1)) ∙ ap signedOf (n .ensures .0))
 
 pub sample-at-spec : {M : Type 1} → statement M
 sample-at-spec =
