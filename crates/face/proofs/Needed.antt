@@ -11,7 +11,8 @@ use Rattle.stage.specs.First.{firstOf, some}
 use Rattle.stage.specs.Layout.{startOf}
 use Rattle.answer.specs.declared.Answer.the-variants.{Accepted, Rate, Stages, Shape, Setting, Store}
 use Rattle.answer.specs.Answer.{numberOf, placeOf}
-use Rattle.refuse.specs.Refusals.{outOfRange, firstRow, chainAnswer}
+use Rattle.rows.specs.Rows.{firstRow}
+use Rattle.refuse.specs.Refusals.{outOfRange, chainAnswer}
 use Rattle.refuse.specs.Shape.{faultyOf}
 use Rattle.face.specs.Call.{answerOut}
 use Rattle.face.specs.Face.{roomOut}

@@ -1,4 +1,4 @@
--- "Eleven refusals. The first that applies, in this order, is given." Each row of the table is a condition and an answer. Definitions only.
+-- "Eleven refusals. The first that applies, in this order, is given." The table is one of rows (`Row`, `firstRow`), and what meets none of them is accepted. Definitions only.
 use mathlib.Core.Bool.{Bool, not, _&&_, _||_, cond}
 use mathlib.Core.List.{List, [], _∷_, _++_}
 use Prim.Native.Nat.{ℕ, suc, _+_, _*_, _-_, _/_, _%_}
@@ -7,6 +7,7 @@ use lib.ListN.{length, getD, set}
 use lib.Ieee.{Float, nan}
 use Rattle.float.specs.Finite.{finiteOf}
 use Rattle.order.specs.Stretch.{part}
+use Rattle.rows.specs.Rows.{Row, row, firstRow}
 use Rattle.stage.specs.declared.kind.Stage.{Stage}
 use Rattle.stage.specs.Kind.{stageAt}
 use Rattle.stage.specs.First.{firstOf, some}
@@ -17,18 +18,6 @@ use Rattle.answer.specs.declared.Answer.{Answer}
 use Rattle.answer.specs.declared.Answer.the-variants.{Accepted, Rate, Stages, Shape, Setting, Store, Position, Samples, Frames, Progress, Sample, Entry}
 use Rattle.refuse.specs.Shape.{faultyOf}
 use Rattle.refuse.specs.Tops.{topsOf}
-
-pub record Row : Type 0 where
-  pub applies : Bool
-  pub answer : Answer
-
-abbrev pub row : Bool → Answer → Row
-row applies answer = record { applies = applies; answer = answer }
-
--- the answer of the first row that applies
-unfoldable pub firstRow : List Row → Answer
-firstRow [] = Accepted
-firstRow (r ∷ rs) = cond (r .applies) (r .answer) (firstRow rs)
 
 -- ---- what the rows ask
 
@@ -63,7 +52,7 @@ stuckOf tops frames progress (k ∷ ks) = cond (mayRun tops frames progress k) (
 -- ---- the table
 
 -- rows 1 to 5: of the rate, c stages of a list, and a store of so many floats
-abbrev pub chainRows : ℕ → List Stage → ℕ → ℕ → List Row
+abbrev pub chainRows : ℕ → List Stage → ℕ → ℕ → List (Row Answer)
 chainRows rate l c floats =
     row (ltb rate 8000 || ltb 192000 rate) Rate
     ∷ row (ltb 16 c) Stages
@@ -73,7 +62,7 @@ chainRows rate l c floats =
     ∷ []
 
 -- rows 6 to 11: of the remembered positions, the samples, the progress and the order too
-abbrev pub blockRows : ℕ → List Stage → ℕ → List Float → List ℕ → List ℕ → List ℕ → List Row
+abbrev pub blockRows : ℕ → List Stage → ℕ → List Float → List ℕ → List ℕ → List ℕ → List (Row Answer)
 blockRows rate l c samples positions progress order =
     let frames = length samples / 2 in
     let tops = topsOf l c in
@@ -88,13 +77,13 @@ blockRows rate l c samples positions progress order =
 
 unfoldable pub chainAnswer : ℕ → List Stage → ℕ → ℕ → Answer
 unfolding firstRow
-chainAnswer rate l c floats = firstRow (chainRows rate l c floats)
+chainAnswer rate l c floats = firstRow (chainRows rate l c floats) Accepted
 
 unfoldable pub blockAnswer : ℕ → List Stage → ℕ → List Float → List ℕ → List ℕ → List ℕ → Answer
 unfolding firstRow
-blockAnswer rate l c samples positions progress order = firstRow (blockRows rate l c samples positions progress order)
+blockAnswer rate l c samples positions progress order = firstRow (blockRows rate l c samples positions progress order) Accepted
 
 -- all eleven
 unfoldable pub answerOf : ℕ → List Stage → ℕ → ℕ → List Float → List ℕ → List ℕ → List ℕ → Answer
 unfolding firstRow
-answerOf rate l c floats samples positions progress order = firstRow (chainRows rate l c floats ++ blockRows rate l c samples positions progress order)
+answerOf rate l c floats samples positions progress order = firstRow (chainRows rate l c floats ++ blockRows rate l c samples positions progress order) Accepted

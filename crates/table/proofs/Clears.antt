@@ -17,11 +17,13 @@ use Rattle.stage.specs.Layout.{startOf, placePositions}
 use Rattle.stage.specs.Lines.{linesOf}
 use Rattle.stage.specs.Range.{inRangeOf}
 use Rattle.stage.proofs.Firsts.{none-clear}
+use Rattle.answer.specs.declared.Answer.{Answer}
 use Rattle.answer.specs.declared.Answer.the-variants.{Accepted}
 use Rattle.answer.specs.Answer.{acceptedOf}
 use Rattle.refuse.specs.Shape.{faultyOf}
 use Rattle.refuse.specs.Tops.{topsOf}
-use Rattle.refuse.specs.Refusals.{Row, outOfRange, lostAt, aheadAt, unrunFrom, badSample, stuckOf, chainRows, blockRows, answerOf}
+use Rattle.rows.specs.Rows.{Row}
+use Rattle.refuse.specs.Refusals.{outOfRange, lostAt, aheadAt, unrunFrom, badSample, stuckOf, chainRows, blockRows, answerOf}
 use Rattle.table.specs.Table.{Faulty, OutOfRange, Lost, Ahead, BadSample, conditions, Clear}
 use Rattle.refuse.proofs.Bools.{true-or-false, not-so, or-none}
 use Rattle.refuse.proofs.Rows.{Refusing, NoRow, no-row, no-row-accepted}
@@ -31,7 +33,7 @@ use Rattle.table.proofs.Numbered.{AllTell}
 use Rattle.table.proofs.TableHolds.{rows-tell}
 
 -- every row that tells a condition refuses
-refusing : (k : ℕ) (rs : List Row) (ps : List (ℕ → Type 0)) → AllTell k rs ps → Refusing rs
+refusing : (k : ℕ) (rs : List (Row Answer)) (ps : List (ℕ → Type 0)) → AllTell k rs ps → Refusing rs
 refusing k [] ps t = tt
 refusing k (r ∷ rs) [] t = absurd t
 refusing k (r ∷ rs) (P ∷ ps) t = (t .0 .refusal, refusing (suc k) rs ps (t .1))
@@ -60,7 +62,7 @@ module _ (rate : ℕ) (l : List Stage) (c floats : ℕ) (samples : List Float) (
   abbrev stuck : ℕ
   stuck = stuckOf tops frames progress order
 
-  abbrev rows : List Row
+  abbrev rows : List (Row Answer)
   rows = chainRows rate l c floats ++ blockRows rate l c samples positions progress order
 
   abbrev Clears : Type 0

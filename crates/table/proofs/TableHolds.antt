@@ -14,11 +14,12 @@ use Rattle.stage.specs.declared.kind.Stage.{Stage}
 use Rattle.stage.specs.First.{firstOf, some}
 use Rattle.stage.specs.Layout.{startOf}
 use Rattle.answer.specs.declared.Answer.{Answer}
-use Rattle.answer.specs.declared.Answer.the-variants.{Entry}
+use Rattle.answer.specs.declared.Answer.the-variants.{Accepted, Entry}
 use Rattle.answer.specs.Answer.{numberOf, placeOf, acceptedOf}
 use Rattle.refuse.specs.Shape.{faultyOf}
 use Rattle.refuse.specs.Tops.{topsOf}
-use Rattle.refuse.specs.Refusals.{Row, row, firstRow, outOfRange, lostAt, aheadAt, unrunFrom, badSample, stuckOf, chainRows, blockRows, chainAnswer, answerOf}
+use Rattle.rows.specs.Rows.{Row, row, firstRow}
+use Rattle.refuse.specs.Refusals.{outOfRange, lostAt, aheadAt, unrunFrom, badSample, stuckOf, chainRows, blockRows, chainAnswer, answerOf}
 use Rattle.table.specs.Table.{First, Faulty, OutOfRange, Lost, Ahead, BadSample, Stuck, chainConditions, blockConditions, conditions, Applies, Given, ByTheTable}
 use Rattle.refuse.proofs.Bools.{true-or-false}
 use Rattle.table.proofs.Stucks.{stuck-so, stuck-is}
@@ -97,36 +98,36 @@ module _ (rate : ℕ) (l : List Stage) (c : ℕ) where
     rows-tell floats = tell-both 1 (chainRows rate l c floats) (blockRows rate l c samples positions progress order) (chainConditions rate l c floats) (blockConditions rate l c samples positions progress order) (chain-tells floats) block-tells
 
 -- ---- a table of rows that tell their conditions
-module _ (rows : List Row) (asked : List (ℕ → Type 0)) (tells : AllTell 1 rows asked) where
-  none : acceptedOf (firstRow rows) ≡ true → (n p : ℕ) → Applies asked n p → ⊥
+module _ (rows : List (Row Answer)) (asked : List (ℕ → Type 0)) (tells : AllTell 1 rows asked) where
+  none : acceptedOf (firstRow rows Accepted) ≡ true → (n p : ℕ) → Applies asked n p → ⊥
   none h zero p q = q
   none h (suc n) p q = misses 1 rows asked tells h n p q
 
-  module _ (x : Hits 1 asked (firstRow rows)) where
-    given : Given asked (suc (x .n)) (placeOf (firstRow rows))
+  module _ (x : Hits 1 asked (firstRow rows Accepted)) where
+    given : Given asked (suc (x .n)) (placeOf (firstRow rows Accepted))
     given = record { applies = x .holds; first = first }
       where
         first : (n p : ℕ) → n < suc (x .n) → Applies asked n p → ⊥
         first zero p g q = q
         first (suc n) p g q = x .first n p (omega arith) q
 
-    number-is : numberOf (firstRow rows) ≡ suc (x .n)
+    number-is : numberOf (firstRow rows Accepted) ≡ suc (x .n)
     number-is = omega (arith, x .number)
 
-    same : (n p : ℕ) → Given asked n p → (numberOf (firstRow rows) ≡ n) × (placeOf (firstRow rows) ≡ p)
+    same : (n p : ℕ) → Given asked n p → (numberOf (firstRow rows Accepted) ≡ n) × (placeOf (firstRow rows Accepted) ≡ p)
     same zero p g = absurd (g .applies)
     same (suc n) p g = go (decLt n (x .n)) (decLt (x .n) n)
       where
-        go : Dec (n < x .n) → Dec (x .n < n) → (numberOf (firstRow rows) ≡ suc n) × (placeOf (firstRow rows) ≡ p)
+        go : Dec (n < x .n) → Dec (x .n < n) → (numberOf (firstRow rows Accepted) ≡ suc n) × (placeOf (firstRow rows Accepted) ≡ p)
         go (yes h) k = absurd (x .first n p h (g .applies))
-        go (no h) (yes k) = absurd (g .first (suc (x .n)) (placeOf (firstRow rows)) (omega arith) (x .holds))
+        go (no h) (yes k) = absurd (g .first (suc (x .n)) (placeOf (firstRow rows Accepted)) (omega arith) (x .holds))
         go (no h) (no k) = let e : n ≡ x .n = omega arith in (number-is ∙ ap suc (sym e), x .only p (rw e at (g .applies)))
 
-  by-rows : ByTheTable asked (firstRow rows)
+  by-rows : ByTheTable asked (firstRow rows Accepted)
   by-rows = record {
     accepted = none;
     refused = λ h. let x = hits 1 rows asked tells h in rw (number-is x) (given x);
-    exactly = λ n p g. ⊎-elim (λ h. absurd (none h n p (g .applies))) (λ h. same (hits 1 rows asked tells h) n p g) (true-or-false (acceptedOf (firstRow rows)));
+    exactly = λ n p g. ⊎-elim (λ h. absurd (none h n p (g .applies))) (λ h. same (hits 1 rows asked tells h) n p g) (true-or-false (acceptedOf (firstRow rows Accepted)));
   }
 
 module _ (rate : ℕ) (l : List Stage) (c floats : ℕ) where

@@ -1,9 +1,10 @@
--- The header of a WAV file and document 01's answers to it: each refusal is a row, a condition and an answer, and the first row that applies decides. Definitions only.
+-- The header of a WAV file and document 01's answers to it: a table of rows, of which the first that applies decides. Definitions only.
 use Prim.Native.Nat.{ℕ, _+_, _*_, _%_}
-use mathlib.Core.Bool.{Bool, not, _&&_, _||_, cond}
+use mathlib.Core.Bool.{Bool, not, _&&_, _||_}
 use mathlib.Core.List.{List, [], _∷_}
 use lib.Dec.{ltb, eqb}
 use lib.ListN.{length}
+use Rattle.rows.specs.Rows.{row, firstRow}
 use Rattle.wav.specs.declared.header.Header.{Header}
 use Rattle.wav.specs.declared.header.Header.the-variants.{Read, Names, Format, Rate, Size, Short}
 use Rattle.wav.specs.Bytes.{twoAt, fourAt}
@@ -68,18 +69,6 @@ unfoldable pub rateRight : ℕ → ℕ → Bool
 rateRight most rate = not (ltb rate 8000 || ltb 192000 rate || ltb most rate)
 
 -- ---- the table
-pub record Row : Type 0 where
-  pub applies : Bool
-  pub answer : Header
-
-abbrev pub row : Bool → Header → Row
-row applies answer = record { applies = applies; answer = answer }
-
--- the answer of the first row that applies, and another where none does
-unfoldable pub firstRow : List Row → Header → Header
-firstRow [] other = other
-firstRow (r ∷ rs) other = cond (r .applies) (r .answer) (firstRow rs other)
-
 unfoldable pub headerOf : List ℕ → ℕ → Header
 unfolding firstRow
 headerOf bytes most =

@@ -3,7 +3,8 @@ use borrow.Author.Tests.{lt-ltb, le-ltb, eq-eqb, ne-eqb}
 use borrow.Author.Needs.{needs}
 use denote.Ref.{now}
 use lib.ListN.{length}
-use Rattle.wav.specs.Header.{headerOf, firstRow}
+use Rattle.rows.specs.Rows.{firstRow}
+use Rattle.wav.specs.Header.{headerOf}
 use Rattle.wav.proofs.header.read.Statement.{statement}
 use Rattle.wav.proofs.header.read.Tie as tie
 
