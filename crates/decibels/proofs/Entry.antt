@@ -3,7 +3,7 @@ use mathlib.Core.Path.{_≡_, sym, ap, _∙_, subst}
 use mathlib.Core.Logic.{inr}
 use mathlib.Core.Bool.{Bool, false, _&&_}
 use Prim.Native.Nat.{ℕ, suc, _+_, _-_, _*_, _/_, _%_, _^_, _≤_, _<_, min}
-use native.Mathlib.Nat.{le-trans, le-of-eq, le-of-lt, lt-of-le-of-lt, lt-irrefl, mod-lt, div-add-mod', mul-le-mul-right, suc-mul}
+use native.Mathlib.Nat.{le-trans, le-of-eq, le-of-lt, ne-of-lt, mod-lt, div-add-mod', mul-le-mul-right, suc-mul}
 use native.Mathlib.Omega.{arith}
 use lib.Dec.{T, leb, ltb, leb→le, ltb→lt}
 use lib.Pow.{pow-pos}
@@ -11,7 +11,7 @@ use lib.Ieee.{Format, prec, low, hid, ones, ofBits, units}
 use lib.Ieee.Fits.{and-l, and-r}
 use Rattle.nearest.specs.Nearest.{Nearest}
 use Rattle.nearest.proofs.Kept.{Kept, kept-nearest}
-use Rattle.float.proofs.Fields.{hid-twice}
+use Rattle.float.proofs.Fields.{suc-pred, hid-twice}
 use Rattle.rounding.proofs.Pack.{pack}
 
 -- the digits of the normal number whose bits are b, of which the first is not stored, and how many units of the format's smallest value the last counts: 2 ^ drop
@@ -21,8 +21,8 @@ digits f b = hid f + b % hid f
 abbrev drop : Format → ℕ → ℕ
 drop f b = b / hid f - 1
 
-abbrev normal : Format → ℕ → Bool
-normal f b = leb 1 (b / hid f) && ltb (b / hid f) (ones f)
+abbrev isNormal : Format → ℕ → Bool
+isNormal f b = leb 1 (b / hid f) && ltb (b / hid f) (ones f)
 
 -- the real number t with t ^ j = 10 ^ i / d has as many digits as the entry at place i, and lies between the means of the entry and its two neighbours
 module _ (f : Format) (j d i b : ℕ) where
@@ -36,27 +36,24 @@ module _ (f : Format) (j d i b : ℕ) where
   above = ltb (((2 * digits f b - 1) * 2 ^ drop f b) ^ j * d) (10 ^ i * (2 * 2 ^ low f) ^ j)
 
   unfoldable pub near : Bool
-  near = normal f b && reaches && below && above
+  near = isNormal f b && reaches && below && above
 
 -- ---- an entry that passes is the nearest
 -- an entry b with q = b / h and r = b % h has the bits of its digits again
 again : (o h b q r : ℕ) → q * h + r ≡ b → 1 ≤ q → q < o → r < h → 0 + min ((q - 1) * h + (h + r)) (o * h) ≡ b
 again o h b q r e l g s =
-    let p : suc (q - 1) ≡ q = omega arith in
+    let p = suc-pred q l in
     let a : suc (q - 1) * h ≡ (q - 1) * h + h = suc-mul (q - 1) h in
     let c : suc (q - 1) * h ≡ q * h = ap (λ (x : ℕ). x * h) p in
     let w : suc q * h ≤ o * h = mul-le-mul-right h g in
     let v : suc q * h ≡ q * h + h = suc-mul q h in
     omega arith
 
-clash : {X : Type 0} {a b : ℕ} → a < b → a ≡ b → X
-clash {b = b} l e = absurd (lt-irrefl b (lt-of-le-of-lt (le-of-eq (sym e)) l))
-
 module _ (f : Format) (j d i b : ℕ) (t : T (near f j d i b)) where
   parts : (T (leb 1 (b / hid f)) × T (ltb (b / hid f) (ones f))) × (T (reaches f j d i b) × (T (below f j d i b) × T (above f j d i b)))
   unfolding near
   parts =
-      let n = normal f b in
+      let n = isNormal f b in
       let r = reaches f j d i b in
       let u = below f j d i b in
       let v = above f j d i b in
@@ -72,10 +69,10 @@ module _ (f : Format) (j d i b : ℕ) (t : T (near f j d i b)) where
   full = omega arith
 
   most : digits f b ≤ 2 ^ prec f
-  most = le-trans (twice (hid f) (b % hid f) rest) (le-of-eq (sym (hid-twice f)))
+  most = le-trans (within (hid f) (b % hid f) rest) (le-of-eq (sym (hid-twice f)))
     where
-      twice : (h r : ℕ) → r < h → h + r ≤ h * 2
-      twice h r l = omega arith
+      within : (h r : ℕ) → r < h → h + r ≤ h * 2
+      within h r l = omega arith
 
   kept : Kept f j (10 ^ i) d (digits f b) (drop f b)
   kept =
@@ -87,8 +84,8 @@ module _ (f : Format) (j d i b : ℕ) (t : T (near f j d i b)) where
         start = inr (leb→le _ _ (parts .1 .0));
         up = le-of-lt u;
         down = le-of-lt v;
-        up-even = λ e. clash u e;
-        down-even = λ p e. clash v (sym e);
+        up-even = λ e. absurd (ne-of-lt u e);
+        down-even = λ p e. absurd (ne-of-lt v (sym e));
       }
 
   entry-is : units f false (digits f b) (drop f b) ≡ ofBits f b

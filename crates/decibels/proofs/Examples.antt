@@ -11,13 +11,13 @@ unfolding amplitudeOf literal ofBits round
 tenth = refl
 
 -- -59 dB is the first entry and 24 dB the last
-first : amplitudeOf (negsuc 58) ≡ ofBits binary32 0x3a93_10b1
+lowest : amplitudeOf (negsuc 58) ≡ ofBits binary32 0x3a93_10b1
 unfolding amplitudeOf
-first = refl
+lowest = refl
 
-last : amplitudeOf (pos 24) ≡ ofBits binary32 0x417d_953a
+highest : amplitudeOf (pos 24) ≡ ofBits binary32 0x417d_953a
 unfolding amplitudeOf
-last = refl
+highest = refl
 
 beyond : amplitudeOf (pos 25) ≡ nan
 unfolding amplitudeOf
@@ -28,13 +28,13 @@ eq-unity : eqAmplitudeOf (pos 0) ≡ literal binary64 1 1
 unfolding eqAmplitudeOf literal ofBits round
 eq-unity = refl
 
-eq-first : eqAmplitudeOf (negsuc 23) ≡ ofBits binary64 0x3fd0_1379_87dd_704c
+eq-lowest : eqAmplitudeOf (negsuc 23) ≡ ofBits binary64 0x3fd0_1379_87dd_704c
 unfolding eqAmplitudeOf
-eq-first = refl
+eq-lowest = refl
 
-eq-last : eqAmplitudeOf (pos 24) ≡ ofBits binary64 0x400f_d93c_1f52_6de0
+eq-highest : eqAmplitudeOf (pos 24) ≡ ofBits binary64 0x400f_d93c_1f52_6de0
 unfolding eqAmplitudeOf
-eq-last = refl
+eq-highest = refl
 
 eq-below : eqAmplitudeOf (negsuc 24) ≡ nan
 unfolding eqAmplitudeOf

@@ -1,7 +1,7 @@
 pub mod Places
 pub mod Table
 pub mod Entry
-pub mod Powers
+pub mod Rule
 pub mod Tables
 pub mod OneOutcome
 pub mod Examples

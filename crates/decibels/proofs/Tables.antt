@@ -14,7 +14,7 @@ use Rattle.decibels.proofs.Places.{amplitude-entry, eq-amplitude-entry}
 use Rattle.decibels.proofs.Table.{all, each}
 use Rattle.decibels.proofs.Entry.{near, nearest-entry}
 use Rattle.decibels.specs.Power.{NearestPower}
-use Rattle.decibels.proofs.Powers.{rule}
+use Rattle.decibels.proofs.Rule.{rule}
 
 test32 : T (all (near binary32 20 (10 ^ 59)) 0 amplitudes)
 unfolding near amplitudes

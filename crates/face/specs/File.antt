@@ -1,8 +1,8 @@
 -- What the header of a WAV file says, as three numbers. Definitions only.
 use Prim.Native.Nat.{ℕ}
-use Rattle.wav.specs.declared.header.Header.{Header}
-use Rattle.wav.specs.declared.header.Header.the-variants.{Read, Names, Format, Rate, Size, Short}
-use Rattle.wav.specs.Header.{headerNumber}
+use Rattle.wav_header.specs.declared.Header.{Header}
+use Rattle.wav_header.specs.declared.Header.the-variants.{Read, Names, Format, Rate, Size, Short}
+use Rattle.wav_header.specs.Header.{headerNumber}
 use Rattle.face.specs.declared.file.WavHeader.{WavHeader}
 
 -- the rate and the data size of a header that is read; 0 of one that is not

@@ -1,9 +1,9 @@
-// The crate `wav` for C and Rust to link: the header with its answer in one struct, and blocks of frames.
+// The crates `wav_header` and `wav` for C and Rust to link: the header with its answer in one struct, and blocks of frames.
 ghost use mathlib.Core.Path.{_≡_};
-ghost use Rattle.wav.specs.Header.{headerOf};
+ghost use Rattle.wav_header.specs.Header.{headerOf};
 ghost use Rattle.wav.specs.Frames.{wholeFrames, samplesIn, bytesOut};
 ghost use Rattle.face.specs.File.{headerOut};
-use wav::header::Header;
+use wav_header::Header;
 
 // Number 0 and the rate and data size of a header that is read; or document 01's number, 21 to 25, and zeros.
 #[repr(C)]
@@ -16,7 +16,7 @@ pub struct WavHeader {
 fn header_out(given: Header) -> WavHeader
     ensures { λ r. ⌜ r ≡ headerOut given ⌝ }
 {
-    let number = wav::header::number(given);
+    let number = wav_header::number(given);
     match given {
         Header::Read { rate, size } => WavHeader { number, rate, size },
         _ => WavHeader {
@@ -32,7 +32,7 @@ fn header_out(given: Header) -> WavHeader
 pub extern "C" fn sedhavil_wav_header(bytes: &[u8], most: u32) -> WavHeader
     ensures { λ r. ⌜ r ≡ headerOut (headerOf (now (bytes .entry)) most) ⌝ }
 {
-    header_out(wav::header::read(bytes, most))
+    header_out(wav_header::read(bytes, most))
 }
 
 // Bytes become samples: as many whole frames as both have room for, and the answer is that count.

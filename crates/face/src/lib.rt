@@ -1,4 +1,4 @@
-// The crates `chain` and, in `file`, `wav` for C and Rust to link, with flat arguments: five words a stage,
+// The crates `chain` and, in `file`, `wav_header` and `wav` for C and Rust to link, with flat arguments: five words a stage,
 // memories and progress in slices. Anything may be passed in: a slice of the wrong length gets answer 101,
 // words that are no stage get 102, both before document 01's checks; refused means untouched.
 ghost use mathlib.Core.Path.{_≡_};

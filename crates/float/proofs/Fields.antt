@@ -6,7 +6,7 @@ use native.Mathlib.Omega.{arith}
 use lib.Ieee.{Format, prec, hid}
 use lib.Ieee.Fits.{two, two-le-pos}
 
-suc-pred : (p : ℕ) → 0 < p → suc (p - 1) ≡ p
+pub suc-pred : (p : ℕ) → 0 < p → suc (p - 1) ≡ p
 suc-pred p h = omega arith
 
 pub twice : (p : ℕ) → 0 < p → 2 ^ p ≡ 2 ^ (p - 1) * 2

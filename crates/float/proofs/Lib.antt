@@ -1,5 +1,6 @@
 pub mod Fields
-pub mod Cases
+pub mod Zero
+pub mod Nan
 pub mod Patterns
 pub mod Clamps
 pub mod Finites

@@ -1,20 +1,20 @@
 -- The evidence that `sqrtOf` and `narrowOf` are IEEE 754's, in the words of specs/Nearest.antt and over the format: the root is the format's value nearest to the real root, the narrowing the value nearest to the same number, and there is no other such value. Assumes nothing.
-use mathlib.Core.Path.{_≡_, sym, subst}
-use mathlib.Core.Logic.{_⊎_, inl, inr}
+use mathlib.Core.Path.{_≡_, sym}
+use mathlib.Core.Logic.{inl, inr}
 use mathlib.Core.Bool.{Bool, false}
-use Prim.Native.Nat.{ℕ, zero, suc, _+_, _*_, _^_, _≤_, _<_}
-use native.Mathlib.Nat.{le-antisymm, le-trans, le-of-eq, add-comm, mul-comm, zero-lt-suc}
+use Prim.Native.Nat.{ℕ, _*_, _^_}
+use native.Mathlib.Nat.{le-antisymm, le-trans, le-of-eq, add-comm, mul-comm}
 use native.Mathlib.Omega.{arith}
 use mathlib.Core.Path.{ap, _∙_}
 use lib.Dec.{T}
-use lib.Ieee.{Float, nan, inf, fin, Format, up, down, low, fits, round}
+use lib.Ieee.{Float, fin, Format, up, down, fits}
 use lib.Ieee.Fits.{down-pos}
 use lib.Ieee.Positive.{num, den, positive}
 use Rattle.rounding.specs.Root.{sqrtOf}
 use Rattle.rounding.specs.Narrow.{narrowOf}
 use Rattle.nearest.specs.Nearest.{Nearest, Nearer, Smaller, over, under, sum, product, lastDigit}
 use Rattle.nearest.proofs.Powers.{split-order}
-use Rattle.nearest.proofs.Magnitude.{Sized, sized, one-value, lt→smaller, smaller→lt, same→same}
+use Rattle.nearest.proofs.Magnitude.{UnitSize, unit-size, one-value, lt→smaller}
 use Rattle.nearest.proofs.RoundKept.{round-nearest}
 use Rattle.nearest.proofs.RootKept.{root-nearest}
 
@@ -46,7 +46,7 @@ module _ (f : Format) (s : Bool) (j n d : ℕ) where
       zero-one x e h = omega arith
 
   pub only-nearest : (y z : Float) → Nearest f s j n d y → Nearest f s j n d z → y ≡ z
-  only-nearest y z a b = go (sized f s y (a .held) (a .sign)) (sized f s z (b .held) (b .sign))
+  only-nearest y z a b = go (unit-size f s y (a .held) (a .sign)) (unit-size f s z (b .held) (b .sign))
     where
       yz : Nearer f j n d y z
       yz = a .nearest z (b .held) (b .sign)
@@ -54,7 +54,7 @@ module _ (f : Format) (s : Bool) (j n d : ℕ) where
       zy : Nearer f j n d z y
       zy = b .nearest y (a .held) (a .sign)
 
-      go : Sized f y → Sized f z → y ≡ z
+      go : UnitSize f y → UnitSize f z → y ≡ z
       go u v =
           let Y = u .m * 2 ^ u .i in
           let Z = v .m * 2 ^ v .i in

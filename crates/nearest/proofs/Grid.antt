@@ -1,21 +1,19 @@
 -- The grid of a format's values: from 2 ^ (p - 1 + k) units up to 2 ^ (p + k) they are 2 ^ k units apart, and the last digit of a value's bits is that of its place on the grid. Assumes nothing.
 use mathlib.Core.Path.{_≡_, refl, sym, ap, _∙_, subst}
 use mathlib.Core.Logic.{_⊎_, inl, inr}
-use Prim.Native.Nat.{ℕ, zero, suc, _+_, _-_, _*_, _/_, _%_, _^_, _≤_, _<_}
-use native.Mathlib.Nat.{le-trans, le-of-eq, le-of-lt, lt-of-lt-of-le, lt-of-le-of-lt, lt-irrefl, mul-one, mul-assoc, mul-comm, mul-le-mul-right, lt-of-mul-lt-mul-right, suc-mul, add-assoc, pow-suc, zero-lt-suc, one-mul}
+use Prim.Native.Nat.{ℕ, suc, _+_, _-_, _*_, _/_, _%_, _^_, _≤_, _<_}
+use native.Mathlib.Nat.{le-trans, le-of-eq, le-of-lt, lt-of-lt-of-le, lt-of-le-of-lt, mul-one, mul-assoc, mul-comm, mul-le-mul-right, lt-of-mul-lt-mul-right, eq-of-mul-eq-mul-right, suc-mul, add-assoc, one-mul}
 use native.Mathlib.Omega.{arith}
 use mathlib.Core.Bool.{Bool, true, false, not, cond}
 use lib.IntN.{ℤ}
 use lib.Dec.{T, ltb, ltb→lt, nltb→le}
 use lib.Pow.{pow-add, pow-pos, pow-mono, shl-lt}
-use lib.Ieee.{Float, nan, inf, fin, Format, binary32, binary64, prec, emax, low, size, hid, ones, top, toBits}
+use lib.Ieee.{Float, nan, inf, fin, Format, binary32, binary64, prec, size, hid, top, toBits}
 use lib.Ieee.Digits.{back}
-use lib.Ieee.Exact.{HasValue}
-use Rattle.nearest.specs.Nearest.{over, under, signed, lastDigit}
-use Rattle.float.proofs.Fields.{prec-pos}
-use Rattle.rounding.proofs.Pack.{pow-lt-back, bits-at, written}
-use Rattle.nearest.proofs.Powers.{cancel}
-use Rattle.nearest.proofs.Magnitude.{Mag, endOf, inf-mag, inf-only, beq-same}
+use Rattle.nearest.specs.Nearest.{signed, lastDigit}
+use Rattle.float.proofs.Fields.{twice, prec-pos}
+use Rattle.rounding.proofs.Pack.{pow-lt-back, bits-at, packed}
+use Rattle.nearest.proofs.Magnitude.{Mag, endOf, inf-only, beq-same}
 
 pub on-grid : (m i k : ℕ) → k ≤ i → m * 2 ^ i ≡ m * 2 ^ (i - k) * 2 ^ k
 on-grid m i k h = ap (λ (x : ℕ). m * x) (ap (λ (x : ℕ). 2 ^ x) (sym (back i k h)) ∙ pow-add 2 (i - k) k) ∙ sym (mul-assoc m (2 ^ (i - k)) (2 ^ k))
@@ -54,10 +52,6 @@ next-down p m i r k P hi (inr lo) l = go (ltb i k) (ltb→lt i k) (nltb→le i k
         omega arith
 
 -- ---- powers of two
-double : (p : ℕ) → 0 < p → (h : ℕ) × (2 ^ p ≡ h * 2)
-double zero h = absurd (lt-irrefl 0 h)
-double (suc p) h = (2 ^ p, pow-suc 2 p)
-
 -- past 2 ^ p the values are further apart
 pub not-past : (p m i k : ℕ) → 0 < p → m < 2 ^ p → m * 2 ^ i ≡ suc (2 ^ p) * 2 ^ k → ⊥
 not-past p m i k P hi e = go (ltb k i) (ltb→lt k i) (nltb→le k i)
@@ -65,17 +59,15 @@ not-past p m i k P hi e = go (ltb k i) (ltb→lt k i) (nltb→le k i)
     go : (b : Bool) → (T b → k < i) → (T (not b) → i ≤ k) → ⊥
     go true y n =
         let c = y tt in
-        let a : m * 2 ^ (i - k) ≡ suc (2 ^ p) = cancel (2 ^ k) (pow-pos k) (sym (on-grid m i k (le-of-lt c)) ∙ e) in
-        let x = double (i - k) (omega arith) in
-        let v = double p P in
-        let w : m * 2 ^ (i - k) ≡ m * x .0 * 2 = ap (λ (z : ℕ). m * z) (x .1) ∙ sym (mul-assoc m (x .0) 2) in
-        uneven (m * x .0) (v .0) (sym w ∙ a ∙ ap suc (v .1))
+        let a : m * 2 ^ (i - k) ≡ suc (2 ^ p) = eq-of-mul-eq-mul-right (2 ^ k) (pow-pos k) _ _ (sym (on-grid m i k (le-of-lt c)) ∙ e) in
+        let w : m * 2 ^ (i - k) ≡ m * 2 ^ (i - k - 1) * 2 = ap (λ (z : ℕ). m * z) (twice (i - k) (omega arith)) ∙ sym (mul-assoc m (2 ^ (i - k - 1)) 2) in
+        uneven (m * 2 ^ (i - k - 1)) (2 ^ (p - 1)) (sym w ∙ a ∙ ap suc (twice p P))
       where
         uneven : (a b : ℕ) → a * 2 ≡ suc (b * 2) → ⊥
         uneven a b e = omega arith
     go false y n =
         let c = n tt in
-        let a : m ≡ suc (2 ^ p) * 2 ^ (k - i) = cancel (2 ^ i) (pow-pos i) (e ∙ on-grid (suc (2 ^ p)) k i c) in
+        let a : m ≡ suc (2 ^ p) * 2 ^ (k - i) = eq-of-mul-eq-mul-right (2 ^ i) (pow-pos i) _ _ (e ∙ on-grid (suc (2 ^ p)) k i c) in
         let b : suc (2 ^ p) * 1 ≤ suc (2 ^ p) * 2 ^ (k - i) = le-trans (le-of-eq (mul-comm (suc (2 ^ p)) 1)) (le-trans (mul-le-mul-right (suc (2 ^ p)) (pow-pos (k - i))) (le-of-eq (mul-comm (2 ^ (k - i)) (suc (2 ^ p))))) in
         let d : suc (2 ^ p) * 1 ≡ suc (2 ^ p) = mul-one (suc (2 ^ p)) in
         omega arith
@@ -85,9 +77,8 @@ pub power-even : (q k t : ℕ) → 1 < q → q * 2 ^ k ≡ 2 ^ t → q % 2 ≡ 0
 power-even q k t Q e =
     let a : 2 ^ k < 2 ^ t = lt-of-lt-of-le (grown q (2 ^ k) Q (pow-pos k)) (le-of-eq e) in
     let b : k < t = pow-lt-back k t a in
-    let c : q ≡ 2 ^ (t - k) = cancel (2 ^ k) (pow-pos k) (e ∙ sym (one-mul (2 ^ t)) ∙ on-grid 1 t k (le-of-lt b) ∙ ap (λ (x : ℕ). x * 2 ^ k) (one-mul (2 ^ (t - k)))) in
-    let x = double (t - k) (omega arith) in
-    ap (λ (z : ℕ). z % 2) (c ∙ x .1) ∙ whole (x .0)
+    let c : q ≡ 2 ^ (t - k) = eq-of-mul-eq-mul-right (2 ^ k) (pow-pos k) _ _ (e ∙ sym (one-mul (2 ^ t)) ∙ on-grid 1 t k (le-of-lt b) ∙ ap (λ (x : ℕ). x * 2 ^ k) (one-mul (2 ^ (t - k)))) in
+    ap (λ (z : ℕ). z % 2) (c ∙ twice (t - k) (omega arith)) ∙ whole (2 ^ (t - k - 1))
   where
     grown : (q a : ℕ) → 1 < q → 0 < a → a < q * a
     grown q a h l = let b : 2 * a ≤ q * a = mul-le-mul-right a h in omega arith
@@ -115,7 +106,7 @@ module _ (f : Format) (s : Bool) (q k : ℕ) (most : q ≤ 2 ^ prec f) (least : 
       ap (λ (x : ℕ). x % 2)
       (bits-at f s (q * 2 ^ k) u m e (beq-same u s p, h)
       ∙ add-assoc (cond s (top f) 0) ((size (q * 2 ^ k) - prec f) * hid f) (q * 2 ^ k / 2 ^ (size (q * 2 ^ k) - prec f))
-      ∙ ap (λ (x : ℕ). cond s (top f) 0 + x) (written (prec f) q k (prec-pos f) most least))
+      ∙ ap (λ (x : ℕ). cond s (top f) 0 + x) (packed (prec f) q k (prec-pos f) most least))
       ∙ digit f s k q
 
   pub even-digit : (z : Float) → T (signed s z) → Mag f z (q * 2 ^ k) → q % 2 ≡ 0 → lastDigit f z ≡ 0

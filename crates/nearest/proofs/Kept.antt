@@ -1,22 +1,22 @@
 -- One law for every rounding: where r is the whole number nearest to t in units of 2 ^ k of the format's smallest values, a tie going to the even one, and k drops no more digits than it has to,
 -- r * 2 ^ k units are the format's value nearest to t. As in specs/Nearest.antt, t ^ j = n / d. Assumes nothing.
-use mathlib.Core.Path.{_≡_, refl, sym, ap, _∙_, subst}
+use mathlib.Core.Path.{_≡_, sym, ap, _∙_, subst}
 use mathlib.Core.Logic.{_⊎_, inl, inr}
 use mathlib.Core.Bool.{Bool, true, false, not, cond, Bool·beq}
-use Prim.Native.Nat.{ℕ, zero, suc, _+_, _-_, _*_, _%_, _^_, _≤_, _<_}
-use native.Mathlib.Nat.{le-trans, le-of-eq, le-of-lt, le-antisymm, eq-or-lt-of-le, lt-of-lt-of-le, lt-of-le-of-lt, lt-irrefl, mul-one, mul-comm, mul-assoc, mul-left-comm, mul-right-comm, mul-pos, mul-le-mul-right, add-mul, one-mul, zero-mul, zero-lt-suc}
+use Prim.Native.Nat.{ℕ, zero, suc, _+_, _-_, _*_, _%_, _^_, _≤_, _<_, zero-le}
+use native.Mathlib.Nat.{le-trans, le-of-eq, le-of-lt, le-antisymm, eq-or-lt-of-le, lt-of-lt-of-le, lt-of-le-of-lt, lt-irrefl, ne-of-lt, one-le-pow, add-left-cancel, mul-one, mul-comm, mul-assoc, mul-right-comm, mul-pos, mul-le-mul-right, add-mul, one-mul, zero-mul, zero-lt-suc}
 use native.Mathlib.Omega.{arith}
 use lib.Dec.{T, ltb, ltb→lt, nltb→le}
 use lib.Pow.{pow-add, pow-pos, pow-mono, pow-lt}
-use lib.Ieee.{Float, nan, inf, fin, Format, binary32, binary64, prec, emax, low, hid, top, fits, odd, units, ofBits}
-use lib.Ieee.Exact.{HasValue, units-val, odd-sign}
+use lib.Ieee.{Float, nan, inf, fin, Format, binary32, binary64, prec, emax, low, hid, top, fits, odd, units}
+use lib.Ieee.Exact.{HasValue, odd-sign}
 use lib.Ieee.Bits.{ofBits-fits}
 use Rattle.rounding.specs.Inner.{pattern}
-use Rattle.nearest.specs.Nearest.{Nearest, Nearer, over, under, signed, lastDigit, sum, product, Smaller}
-use Rattle.float.proofs.Fields.{prec-pos, hid-twice}
+use Rattle.nearest.specs.Nearest.{Nearest, Nearer, under, signed, lastDigit, sum, product}
+use Rattle.float.proofs.Fields.{prec-pos}
 use Rattle.rounding.proofs.Pack.{pack, pow-lt-back}
-use Rattle.nearest.proofs.Powers.{mul-pow, power-pos, split-order, powers-lt, powers-le, powers-same, scaled-le, scaled-eq}
-use Rattle.nearest.proofs.Magnitude.{Mag, Sized, sized, endOf, inf-mag, inf-only, under-pos, smaller→lt, same→same, sum-mag}
+use Rattle.nearest.proofs.Powers.{mul-pow, split-order, powers-lt, powers-le, powers-same, scaled-le, scaled-eq}
+use Rattle.nearest.proofs.Magnitude.{Mag, UnitSize, unit-size, endOf, inf-mag, under-pos, smaller→lt, same→same, sum-mag}
 use Rattle.nearest.proofs.Grid.{next-up, next-down, not-past, power-even, even-digit, odd-digit}
 
 pub record Kept (f : Format) (j n d r k : ℕ) : Type 0 where
@@ -43,8 +43,8 @@ nearer f j n d y z Y Z hy hz b =
     let P = product y z in
     let S = sum f y z in
     let P-pos : 0 < P = mul-pos (under-pos y) (under-pos z) in
-    let Lj : 0 < L ^ j = power-pos L j (pow-pos (low f)) in
-    let Pj : 0 < P ^ j = power-pos P j P-pos in
+    let Lj : 0 < L ^ j = one-le-pow j L (pow-pos (low f)) in
+    let Pj : 0 < P ^ j = one-le-pow j P P-pos in
     let e1 : n * (2 * P) ^ j * L ^ j ≡ n * (2 * L) ^ j * P ^ j = mul-assoc n ((2 * P) ^ j) (L ^ j) ∙ ap (λ (x : ℕ). n * x) (sym (mul-pow (2 * P) L j) ∙ ap (λ (x : ℕ). x ^ j) (mul-right-comm 2 P L) ∙ mul-pow (2 * L) P j) ∙ sym (mul-assoc n ((2 * L) ^ j) (P ^ j)) in
     let e2 : S ^ j * d * L ^ j ≡ (Y + Z) ^ j * d * P ^ j = mul-right-comm (S ^ j) d (L ^ j) ∙ ap (λ (x : ℕ). x * d) (sym (mul-pow S L j) ∙ ap (λ (x : ℕ). x ^ j) (sum-mag f y z Y Z hy hz) ∙ mul-pow (Y + Z) P j) ∙ mul-right-comm ((Y + Z) ^ j) (P ^ j) d in
     let A = n * (2 * P) ^ j in
@@ -64,9 +64,6 @@ past-mean j n d L Y Z J D h l =
     lt-of-lt-of-le (powers-lt j d J D a)
     (le-trans (le-of-eq (ap (λ (x : ℕ). x * d) (mul-pow 2 Y j) ∙ mul-assoc (2 ^ j) (Y ^ j) d ∙ mul-comm (2 ^ j) (Y ^ j * d)))
     (le-trans (mul-le-mul-right (2 ^ j) h) (le-of-eq (mul-assoc n (L ^ j) (2 ^ j) ∙ ap (λ (x : ℕ). n * x) (mul-comm (L ^ j) (2 ^ j) ∙ sym (mul-pow 2 L j))))))
-
-clash : {a b : ℕ} → a ≡ b → b < a → ⊥
-clash {a} {b} e l = lt-irrefl b (lt-of-lt-of-le l (le-of-eq e))
 
 -- ---- numbers of a format
 room : (f : Format) → 2 ^ prec f < endOf f
@@ -147,7 +144,7 @@ module _ (f : Format) (s : Bool) (j n d r k : ℕ) (J : 0 < j) (D : 0 < d) (h : 
       go (inr l) (inl e) = inl (inl e)
       go (inr l) (inr g) = elim (eq-or-lt-of-le l) [ inl e ↦ inr (subst (λ (x : ℕ). (x * 2 ^ k) ^ j * d ≤ n * L ^ j) e g) | inr m ↦ inl (inr m) ]
 
-  module _ (y z : Float) (py : T (signed s y)) (pz : T (signed s z)) (fine : Y ≤ endOf f) (hy : Mag f y Y) (w : Sized f z) where
+  module _ (y z : Float) (py : T (signed s y)) (pz : T (signed s z)) (fine : Y ≤ endOf f) (hy : Mag f y Y) (w : UnitSize f z) where
     abbrev Z : ℕ
     Z = w .m * 2 ^ w .i
 
@@ -174,11 +171,8 @@ module _ (f : Format) (s : Bool) (j n d r k : ℕ) (J : 0 < j) (D : 0 < d) (h : 
         go zero (inl a) e g = one-end (sym (ap (λ (x : ℕ). 1 * 2 ^ x) a) ∙ g)
           where
             one-end : 1 ≡ endOf f → ⊥
-            one-end v = clash (sym v) (lt-of-le-of-lt (pow-pos (prec f)) (room f))
-        go zero (inr a) e g = lt-irrefl 1 (lt-of-lt-of-le (some-hid f) (le-trans a (least 1)))
-          where
-            least : (x : ℕ) → 0 ≤ x
-            least x = omega arith
+            one-end v = ne-of-lt (lt-of-le-of-lt (pow-pos (prec f)) (room f)) v
+        go zero (inr a) e g = lt-irrefl 1 (lt-of-lt-of-le (some-hid f) (le-trans a zero-le))
         go (suc r) b e g = uneven (suc r) e (power-even (suc (suc r)) k (low f + suc (emax f)) (two r) g)
           where
             two : (r : ℕ) → 1 < suc (suc r)
@@ -192,12 +186,9 @@ module _ (f : Format) (s : Bool) (j n d r k : ℕ) (J : 0 < j) (D : 0 < d) (h : 
         let a : t ≡ (suc (2 * r) * 2 ^ k) ^ j * d = le-antisymm (h .up) (le-trans (powers-le j d (up-far l)) (le-of-eq (sym e))) in
         let b : suc (2 * r) * 2 ^ k ≡ Y + Z = powers-same j d J D (suc (2 * r) * 2 ^ k) (Y + Z) (sym a ∙ e) in
         let c : r % 2 ≡ 0 = h .up-even a in
-        let g : Z ≡ suc r * 2 ^ k = rest Y Z (suc r * 2 ^ k) (sym b ∙ above-it) in
+        let g : Z ≡ suc r * 2 ^ k = add-left-cancel Y (sym b ∙ above-it) in
         (y-even c, odd-digit f s (suc r) k (not-carried g) (more (h .least)) z pz (w .mag ∙ ap (λ (x : ℕ). x * under z) g) (not-end c) (next r c))
       where
-        rest : (a b c : ℕ) → a + b ≡ a + c → b ≡ c
-        rest a b c e = omega arith
-
         next : (r : ℕ) → r % 2 ≡ 0 → suc r % 2 ≡ 1
         next r e = omega arith
 
@@ -219,10 +210,7 @@ module _ (f : Format) (s : Bool) (j n d r k : ℕ) (J : 0 < j) (D : 0 < d) (h : 
     some-r l = go r l
       where
         go : (r : ℕ) → Z < r * 2 ^ k → 0 < r
-        go zero l = absurd (lt-irrefl 0 (lt-of-le-of-lt (least Z) (lt-of-lt-of-le l (le-of-eq (zero-mul (2 ^ k))))))
-          where
-            least : (x : ℕ) → 0 ≤ x
-            least x = omega arith
+        go zero l = absurd (lt-irrefl 0 (lt-of-le-of-lt zero-le (lt-of-lt-of-le l (le-of-eq (zero-mul (2 ^ k))))))
         go (suc r) l = zero-lt-suc r
 
     down-side : ((k ≡ 0) ⊎ (hid f < r)) ⊎ Floor → Z < Y → (Y + Z) ^ j * d ≤ t
@@ -230,18 +218,15 @@ module _ (f : Format) (s : Bool) (j n d r k : ℕ) (J : 0 < j) (D : 0 < d) (h : 
     down-side (inr g) l = le-of-lt (past-mean j n d L Y Z J D g l)
 
     down-tie : ((k ≡ 0) ⊎ (hid f < r)) ⊎ Floor → Z < Y → t ≡ (Y + Z) ^ j * d → (lastDigit f y ≡ 0) × (lastDigit f z ≡ 1)
-    down-tie (inr g) l e = absurd (clash e (past-mean j n d L Y Z J D g l))
+    down-tie (inr g) l e = absurd (ne-of-lt (past-mean j n d L Y Z J D g l) (sym e))
     down-tie (inl b) l e =
         let R = some-r l in
         let a : t ≡ ((2 * r - 1) * 2 ^ k) ^ j * d = le-antisymm (le-trans (le-of-eq e) (powers-le j d (down-far b l R))) (h .down) in
         let c : Y + Z ≡ (2 * r - 1) * 2 ^ k = powers-same j d J D (Y + Z) ((2 * r - 1) * 2 ^ k) (sym e ∙ a) in
         let v : r % 2 ≡ 0 = h .down-even R a in
-        let g : Z ≡ (r - 1) * 2 ^ k = rest Y Z ((r - 1) * 2 ^ k) (c ∙ below-it R) in
+        let g : Z ≡ (r - 1) * 2 ^ k = add-left-cancel Y (c ∙ below-it R) in
         (y-even v, odd-digit f s (r - 1) k (less (h .most)) (more b) z pz (w .mag ∙ ap (λ (x : ℕ). x * under z) g) (λ u. lt-irrefl (endOf f) (lt-of-lt-of-le (lt-of-le-of-lt (le-of-eq (sym (g ∙ u))) l) fine)) (before r R v))
       where
-        rest : (a b c : ℕ) → a + b ≡ a + c → b ≡ c
-        rest a b c e = omega arith
-
         before : (r : ℕ) → 0 < r → r % 2 ≡ 0 → (r - 1) % 2 ≡ 1
         before r l e = omega arith
 
@@ -269,7 +254,7 @@ module _ (f : Format) (s : Bool) (j n d r k : ℕ) (J : 0 < j) (D : 0 < d) (h : 
       go (inl e) = absurd (lt-irrefl (endOf f) (lt-of-lt-of-le l (le-trans (le-of-eq (ap (λ (x : ℕ). r * 2 ^ x) e ∙ mul-one r)) (le-trans (h .most) (le-of-lt (room f))))))
       go (inr g) = le-trans (powers-le j d (le-trans (pow-mono short) (le-of-eq (pow-add 2 (prec f - 1) k)))) g
 
-  outer-beside : (y z : Float) → endOf f < Y → (w : Sized f z) → Beside f j n d y z (endOf f) (w .m * 2 ^ w .i)
+  outer-beside : (y z : Float) → endOf f < Y → (w : UnitSize f z) → Beside f j n d y z (endOf f) (w .m * 2 ^ w .i)
   outer-beside y z l w =
       let E = endOf f in
       let Z = w .m * 2 ^ w .i in
@@ -277,17 +262,17 @@ module _ (f : Format) (s : Bool) (j n d r k : ℕ) (J : 0 < j) (D : 0 < d) (h : 
       record {
         below = λ v. absurd (lt-irrefl E (lt-of-lt-of-le v (w .inside)));
         above = λ v. le-of-lt (far v);
-        tie = λ ne e. elim (eq-or-lt-of-le (w .inside)) [ inl u ↦ absurd (ne (sym u)) | inr v ↦ absurd (clash e (far v)) ];
+        tie = λ ne e. elim (eq-or-lt-of-le (w .inside)) [ inl u ↦ absurd (ne (sym u)) | inr v ↦ absurd (ne-of-lt (far v) (sym e)) ];
       }
 
   pub kept-nearest : Nearest f s j n d (units f s r k)
   kept-nearest =
       let v = rounded f s r k (h .most) (h .least) in
-      record { held = v .held; sign = v .sign; nearest = λ z tz pz. near v z pz (sized f s z tz pz) (ltb (endOf f) Y) (ltb→lt (endOf f) Y) (nltb→le (endOf f) Y) }
+      record { held = v .held; sign = v .sign; nearest = λ z tz pz. near v z pz (unit-size f s z tz pz) (ltb (endOf f) Y) (ltb→lt (endOf f) Y) (nltb→le (endOf f) Y) }
     where
       y : Float
       y = units f s r k
 
-      near : Rounded f s r k y → (z : Float) → T (signed s z) → Sized f z → (b : Bool) → (T b → endOf f < Y) → (T (not b) → Y ≤ endOf f) → Nearer f j n d y z
+      near : Rounded f s r k y → (z : Float) → T (signed s z) → UnitSize f z → (b : Bool) → (T b → endOf f < Y) → (T (not b) → Y ≤ endOf f) → Nearer f j n d y z
       near v z pz w true past inside = nearer f j n d y z (endOf f) (w .m * 2 ^ w .i) (v .outer (past tt)) (w .mag) (outer-beside y z (past tt) w)
       near v z pz w false past inside = nearer f j n d y z Y (w .m * 2 ^ w .i) (v .inner (inside tt)) (w .mag) (inner-beside y z (v .sign) pz (inside tt) (v .inner (inside tt)) w)

@@ -1,20 +1,16 @@
 -- A value's magnitude in units of the format's smallest value, an infinity counted as in specs/Nearest.antt: which magnitudes there are, that the order of values is theirs, and that a magnitude and a sign make a value. Assumes nothing.
-use mathlib.Core.Path.{_≡_, refl, sym, ap, _∙_, subst}
-use mathlib.Core.Logic.{_⊎_, inl, inr}
+use mathlib.Core.Path.{_≡_, refl, sym, ap, _∙_}
 use Prim.Native.Nat.{ℕ, zero, suc, _+_, _-_, _*_, _%_, _^_, _≤_, _<_}
-use native.Mathlib.Nat.{le-trans, le-of-eq, le-refl, le-of-lt, lt-of-lt-of-le, lt-of-le-of-lt, lt-irrefl, zero-lt-suc, zero-mul, mul-one, one-mul, mul-comm, mul-assoc, mul-right-comm, mul-left-comm, mul-pos, mul-lt-mul-of-pos-right, lt-of-mul-lt-mul-right, add-mul}
-use native.Mathlib.Omega.{arith}
-use mathlib.Core.Bool.{Bool, true, false, not, _&&_, Bool·beq}
+use native.Mathlib.Nat.{le-of-eq, le-of-lt, lt-of-lt-of-le, lt-of-le-of-lt, lt-irrefl, zero-lt-suc, zero-mul, mul-one, one-mul, mul-comm, mul-assoc, mul-right-comm, mul-pos, mul-lt-mul-of-pos-right, lt-of-mul-lt-mul-right, eq-of-mul-eq-mul-right, add-mul}
+use mathlib.Core.Bool.{Bool, true, false, _&&_, Bool·beq}
 use lib.IntN.{ℤ, pos, negsuc}
 use lib.Dec.{T, leb, ltb, eqb, ltb→lt, leb→le}
 use lib.Pow.{pow-add, pow-pos, pow-lt}
 use lib.Ieee.{Float, nan, inf, fin, Format, binary32, binary64, prec, emax, low, up, down, fits}
 use lib.Ieee.Digits.{back}
 use lib.Ieee.Fits.{down-pos, and-l, and-r}
-use lib.Ieee.Exact.{HasValue}
 use Rattle.nearest.specs.Nearest.{over, under, signed, Smaller}
 use Rattle.rounding.proofs.Pack.{pow-le-back, of-value}
-use Rattle.nearest.proofs.Powers.{cancel}
 
 -- the first magnitude past the format's, in units
 abbrev pub endOf : Format → ℕ
@@ -39,7 +35,7 @@ beq-same false true h = absurd h
 beq-same false false h = refl
 
 -- ---- a magnitude is m * 2 ^ i units, with m of no more digits than the format keeps
-pub record Sized (f : Format) (z : Float) : Type 0 where
+pub record UnitSize (f : Format) (z : Float) : Type 0 where
   pub m : ℕ
   pub i : ℕ
   pub short : m < 2 ^ prec f
@@ -50,10 +46,10 @@ one-short : (f : Format) → 1 < 2 ^ prec f
 one-short binary32 = pow-lt {i = 0} {j = 24} (zero-lt-suc 23)
 one-short binary64 = pow-lt {i = 0} {j = 53} (zero-lt-suc 52)
 
-finite-sized : (f : Format) (s : Bool) (m : ℕ) (e : ℤ) → T (fits f (fin s m e)) → (z : Sized f (fin s m e)) × (z .m * 2 ^ z .i < endOf f)
+finite-size : (f : Format) (s : Bool) (m : ℕ) (e : ℤ) → T (fits f (fin s m e)) → (z : UnitSize f (fin s m e)) × (z .m * 2 ^ z .i < endOf f)
 unfolding fits
-finite-sized f s zero e t = (record { m = 0; i = 0; short = pow-pos (prec f); inside = le-of-lt (pow-pos (low f + suc (emax f))); mag = ap (λ (x : ℕ). x * 2 ^ low f) (zero-mul (up e)) ∙ zero-mul (2 ^ low f) ∙ sym (zero-mul (down e)) }, pow-pos (low f + suc (emax f)))
-finite-sized f s (suc m) e t =
+finite-size f s zero e t = (record { m = 0; i = 0; short = pow-pos (prec f); inside = le-of-lt (pow-pos (low f + suc (emax f))); mag = ap (λ (x : ℕ). x * 2 ^ low f) (zero-mul (up e)) ∙ zero-mul (2 ^ low f) ∙ sym (zero-mul (down e)) }, pow-pos (low f + suc (emax f)))
+finite-size f s (suc m) e t =
     let A = eqb (suc m % 2) 1 in
     let B = ltb (suc m) (2 ^ prec f) in
     let C = leb (down e) (2 ^ low f) in
@@ -76,10 +72,10 @@ finite-sized f s (suc m) e t =
           ∙ sym (mul-assoc (suc m) (2 ^ (low f - suc a)) (2 ^ suc a)),
     )
 
-pub sized : (f : Format) (s : Bool) (z : Float) → T (fits f z) → T (signed s z) → Sized f z
-sized f s nan t p = absurd p
-sized f s (inf u) t p = record { m = 1; i = low f + suc (emax f); short = one-short f; inside = le-of-eq (one-mul (endOf f)); mag = inf-mag f u ∙ ap (λ (x : ℕ). x * 1) (sym (one-mul (endOf f))) }
-sized f s (fin u m e) t p = finite-sized f u m e t .0
+pub unit-size : (f : Format) (s : Bool) (z : Float) → T (fits f z) → T (signed s z) → UnitSize f z
+unit-size f s nan t p = absurd p
+unit-size f s (inf u) t p = record { m = 1; i = low f + suc (emax f); short = one-short f; inside = le-of-eq (one-mul (endOf f)); mag = inf-mag f u ∙ ap (λ (x : ℕ). x * 1) (sym (one-mul (endOf f))) }
+unit-size f s (fin u m e) t p = finite-size f u m e t .0
 
 -- ---- the order of two values is that of their magnitudes
 module _ (f : Format) (y z : Float) (Y Z : ℕ) (hy : Mag f y Y) (hz : Mag f z Z) where
@@ -99,7 +95,7 @@ module _ (f : Format) (y z : Float) (Y Z : ℕ) (hy : Mag f y Y) (hz : Mag f z Z
   lt→smaller h = lt-of-mul-lt-mul-right (2 ^ low f) (lt-of-le-of-lt (le-of-eq cross-y) (lt-of-lt-of-le (mul-lt-mul-of-pos-right h both-pos) (le-of-eq (sym cross-z))))
 
   pub same→same : Y ≡ Z → over f y * under z ≡ over f z * under y
-  same→same e = cancel (2 ^ low f) (pow-pos (low f)) (cross-y ∙ ap (λ (x : ℕ). x * (under y * under z)) e ∙ sym cross-z)
+  same→same e = eq-of-mul-eq-mul-right (2 ^ low f) (pow-pos (low f)) _ _ (cross-y ∙ ap (λ (x : ℕ). x * (under y * under z)) e ∙ sym cross-z)
 
   pub sum-mag : (over f y * under z + over f z * under y) * 2 ^ low f ≡ (Y + Z) * (under y * under z)
   sum-mag = add-mul (over f y * under z) (over f z * under y) (2 ^ low f) ∙ ap (λ (x : ℕ). x + over f z * under y * 2 ^ low f) cross-y ∙ ap (λ (x : ℕ). Y * (under y * under z) + x) cross-z ∙ sym (add-mul Y Z (under y * under z))
@@ -110,8 +106,8 @@ inf-only f u Y h = sym (mul-one Y) ∙ sym h ∙ inf-mag f u ∙ mul-one (endOf 
 
 inf-no-fin : (f : Format) (s u : Bool) (m : ℕ) (e : ℤ) (Y : ℕ) → T (fits f (fin u m e)) → Mag f (inf s) Y → Mag f (fin u m e) Y → ⊥
 inf-no-fin f s u m e Y t h k =
-    let w = finite-sized f u m e t in
-    let v : w .0 .m * 2 ^ w .0 .i ≡ Y = cancel (down e) (down-pos e) (sym (w .0 .mag) ∙ k) in
+    let w = finite-size f u m e t in
+    let v : w .0 .m * 2 ^ w .0 .i ≡ Y = eq-of-mul-eq-mul-right (down e) (down-pos e) _ _ (sym (w .0 .mag) ∙ k) in
     lt-irrefl (endOf f) (lt-of-le-of-lt (le-of-eq (sym (inf-only f s Y h) ∙ sym v)) (w .1))
 
 pub one-value : (f : Format) (s : Bool) (y z : Float) (Y : ℕ) → T (fits f y) → T (fits f z) → T (signed s y) → T (signed s z) → Mag f y Y → Mag f z Y → y ≡ z

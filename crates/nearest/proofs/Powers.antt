@@ -1,27 +1,21 @@
 -- Comparing j-th powers of whole numbers, and products with them. Assumes nothing.
-use mathlib.Core.Path.{_≡_, refl, sym, ap, _∙_, subst}
+use mathlib.Core.Path.{_≡_, sym, ap, _∙_}
 use mathlib.Core.Logic.{_⊎_, inl, inr}
-use Prim.Native.Nat.{ℕ, zero, suc, _+_, _-_, _*_, _^_, _≤_, _<_}
-use native.Mathlib.Nat.{le-trans, le-of-eq, lt-irrefl, lt-of-lt-of-le, lt-of-le-of-lt, le-antisymm, eq-or-lt-of-le, mul-comm, mul-assoc, mul-left-comm, mul-mul-mul-comm, mul-pos, mul-le-mul-right, mul-lt-mul-of-pos-right, le-of-mul-le-mul-right, eq-of-mul-eq-mul-right, one-mul, pow-zero, pow-suc, pow-le-pow-left, pow-lt-pow-left, one-le-pow}
+use Prim.Native.Nat.{ℕ, zero, suc, _*_, _^_, _≤_, _<_}
+use native.Mathlib.Nat.{le-trans, le-of-eq, lt-irrefl, lt-of-lt-of-le, eq-or-lt-of-le, mul-mul-mul-comm, mul-le-mul-right, mul-lt-mul-of-pos-right, le-of-mul-le-mul-right, eq-of-mul-eq-mul-right, one-mul, pow-zero, pow-suc, pow-le-pow-left, pow-lt-pow-left}
 use native.Mathlib.Omega.{arith}
 use mathlib.Core.Bool.{Bool, true, false, not}
 use lib.Dec.{T, ltb, ltb→lt, nltb→le}
 
-pub cancel : {a b : ℕ} (p : ℕ) → 0 < p → a * p ≡ b * p → a ≡ b
-cancel {a} {b} p P e = eq-of-mul-eq-mul-right p P a b e
-
-pub power-one : (a : ℕ) → a ^ 1 ≡ a
-power-one a = pow-suc a 0 ∙ ap (λ (x : ℕ). x * a) (pow-zero a) ∙ one-mul a
+pub first-power : (a : ℕ) → a ^ 1 ≡ a
+first-power a = pow-suc a 0 ∙ ap (λ (x : ℕ). x * a) (pow-zero a) ∙ one-mul a
 
 pub square : (a : ℕ) → a ^ 2 ≡ a * a
-square a = pow-suc a 1 ∙ ap (λ (x : ℕ). x * a) (power-one a)
+square a = pow-suc a 1 ∙ ap (λ (x : ℕ). x * a) (first-power a)
 
 pub mul-pow : (a b j : ℕ) → (a * b) ^ j ≡ a ^ j * b ^ j
 mul-pow a b zero = pow-zero (a * b) ∙ sym (ap (λ (x : ℕ). x * b ^ 0) (pow-zero a) ∙ ap (λ (x : ℕ). 1 * x) (pow-zero b))
 mul-pow a b (suc j) = pow-suc (a * b) j ∙ ap (λ (x : ℕ). x * (a * b)) (mul-pow a b j) ∙ mul-mul-mul-comm (a ^ j) (b ^ j) a b ∙ ap (λ (x : ℕ). x * (b ^ j * b)) (sym (pow-suc a j)) ∙ ap (λ (x : ℕ). a ^ suc j * x) (sym (pow-suc b j))
-
-pub power-pos : (a j : ℕ) → 0 < a → 0 < a ^ j
-power-pos a j h = one-le-pow j a h
 
 -- below, at or above
 pub split-order : (a b : ℕ) → (a < b) ⊎ ((b < a) ⊎ (a ≡ b))
@@ -55,4 +49,4 @@ module _ (a b a' b' l p : ℕ) (L : 0 < l) (P : 0 < p) (ea : a * l ≡ a' * p) (
   scaled-le h = le-of-mul-le-mul-right (le-trans (le-of-eq ea) (le-trans (mul-le-mul-right p h) (le-of-eq (sym eb)))) L
 
   pub scaled-eq : a ≡ b → a' ≡ b'
-  scaled-eq h = cancel p P (sym ea ∙ ap (λ (x : ℕ). x * l) h ∙ eb)
+  scaled-eq h = eq-of-mul-eq-mul-right p P _ _ (sym ea ∙ ap (λ (x : ℕ). x * l) h ∙ eb)

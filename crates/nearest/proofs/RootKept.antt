@@ -1,13 +1,13 @@
 -- The digits of `sqrtOf` keep what Kept.antt asks: so it gives the value nearest to the root. No root is half way between two values. Assumes nothing.
 use mathlib.Core.Path.{_≡_, refl, sym, ap, _∙_, subst}
-use mathlib.Core.Logic.{_⊎_, inl, inr}
-use mathlib.Core.Bool.{Bool, true, false}
-use Prim.Native.Nat.{ℕ, zero, suc, _+_, _-_, _*_, _/_, _%_, _^_, _≤_, _<_}
-use native.Mathlib.Nat.{le-trans, le-of-eq, le-refl, le-of-lt, lt-of-lt-of-le, lt-of-le-of-lt, lt-irrefl, lt-of-not-le, le-of-suc-le-suc, zero-lt-suc, one-mul, mul-comm, mul-assoc, mul-left-comm, mul-right-comm, mul-mul-mul-comm, mul-pos, mul-le-mul, mul-le-mul-right, mul-lt-mul-of-pos-right, le-of-mul-le-mul-right, lt-of-mul-lt-mul-right, suc-mul, mul-suc, add-mul, mul-add, mul-div-cancel}
+use mathlib.Core.Logic.{inr}
+use mathlib.Core.Bool.{true, false}
+use Prim.Native.Nat.{ℕ, zero, suc, _+_, _-_, _*_, _/_, _^_, _≤_, _<_}
+use native.Mathlib.Nat.{le-trans, le-of-eq, le-refl, le-of-lt, lt-of-lt-of-le, lt-of-le-of-lt, ne-of-lt, lt-of-not-le, le-of-suc-le-suc, zero-lt-suc, one-mul, mul-comm, mul-assoc, mul-left-comm, mul-right-comm, mul-mul-mul-comm, mul-pos, mul-le-mul, mul-le-mul-right, mul-lt-mul-of-pos-right, le-of-mul-le-mul-right, lt-of-mul-lt-mul-right, suc-mul, mul-div-cancel}
 use native.Mathlib.Omega.{arith}
 use lib.Dec.{T}
 use lib.Pow.{pow-add, pow-pos, pow-mono, shl-lt}
-use lib.Ieee.{Float, nan, inf, fin, Format, binary32, binary64, prec, low, hid, size, fits, units}
+use lib.Ieee.{Float, nan, inf, fin, Format, binary32, binary64, prec, low, hid, size, fits}
 use lib.Ieee.Digits.{size-lt, size-le, size-reaches}
 use lib.Ieee.Exact.{HasValue}
 use lib.Ieee.Positive.{num, den, positive, den-pos, first-pos, value-pos}
@@ -15,11 +15,11 @@ use Rattle.rounding.specs.Root.{sqrtOf, nearestRoot}
 use Rattle.nearest.specs.Nearest.{Nearest, signed}
 use Rattle.float.proofs.Fields.{prec-pos}
 use Rattle.rounding.proofs.Pack.{size-gt}
-use Rattle.rounding.proofs.WholeRoot.{nearest-ge, nearest-bounds, square-suc}
-use Rattle.rounding.proofs.Aligned.{four}
+use Rattle.rounding.proofs.WholeRoot.{nearest-ge, nearest-bounds, square-suc, square-odd}
+use Rattle.rounding.proofs.Aligned.{power-four}
 use Rattle.rounding.proofs.RootLaw.{sqrt-of, root-units}
 use Rattle.nearest.proofs.Powers.{square, mul-pow}
-use Rattle.nearest.proofs.Magnitude.{Sized, sized}
+use Rattle.nearest.proofs.Magnitude.{UnitSize, unit-size}
 use Rattle.nearest.proofs.Grid.{on-grid}
 use Rattle.nearest.proofs.Kept.{Kept, kept-nearest}
 
@@ -55,25 +55,22 @@ parts p q h P Q hi l =
     }
 
 root-high : (r M p : ℕ) → r * r < M + r → M < p * p → r ≤ p
-root-high r M p h l = le-of-suc-le-suc (lt-of-not-le (λ (g : suc p ≤ r). clash g))
+root-high r M p h l = le-of-suc-le-suc (lt-of-not-le (λ (g : suc p ≤ r). no g))
   where
-    clash : suc p ≤ r → ⊥
-    clash g =
+    no : suc p ≤ r → ⊥
+    no g =
         let a : suc p * r ≤ r * r = mul-le-mul-right r g in
         let b : suc p * r ≡ p * r + r = suc-mul p r in
         let c : p * p ≤ p * r = mul-le-mul (le-refl p) (le-of-lt g) in
         omega arith
 
 -- ---- the squares of the two midpoints
-odd-square : (r : ℕ) → suc (2 * r) * suc (2 * r) ≡ 4 * (r * r + r) + 1
-odd-square r = let a = square-suc (2 * r) in let b : 2 * r * (2 * r) ≡ 4 * (r * r) = mul-mul-mul-comm 2 r 2 r in omega arith
-
 above : (M r : ℕ) → M ≤ r * r + r → 4 * M < suc (2 * r) * suc (2 * r)
-above M r h = let a = odd-square r in omega arith
+above M r h = let a = square-odd r in omega arith
 
 below : (M r : ℕ) → 0 < M → r * r < M + r → (2 * r - 1) * (2 * r - 1) < 4 * M
 below M zero m h = omega arith
-below M (suc r) m h = subst (λ (x : ℕ). x * x < 4 * M) (sym (odd-at r)) (let a = odd-square r in let b = square-suc r in omega arith)
+below M (suc r) m h = subst (λ (x : ℕ). x * x < 4 * M) (sym (odd-at r)) (let a = square-odd r in let b = square-suc r in omega arith)
   where
     odd-at : (r : ℕ) → 2 * suc r - 1 ≡ suc (2 * r)
     odd-at r = omega arith
@@ -107,8 +104,8 @@ root-kept f n d X M r k D e g lo least most not-more not-less =
       start = inr (le-trans (le-of-eq (place (hid f))) (le-trans (mul-le-mul-right U lo) (le-of-eq (sym (under-root n d L X M k e g)))));
       up = le-of-lt up;
       down = le-of-lt down;
-      up-even = λ v. absurd (lt-irrefl _ (lt-of-le-of-lt (le-of-eq (sym v)) up));
-      down-even = λ R v. absurd (lt-irrefl _ (lt-of-le-of-lt (le-of-eq v) down));
+      up-even = λ v. absurd (ne-of-lt up v);
+      down-even = λ R v. absurd (ne-of-lt down (sym v));
     }
 
 -- ---- of a format's value
@@ -118,7 +115,7 @@ positive-signed (inf s) p = absurd p
 positive-signed (fin true m e) p = absurd p
 positive-signed (fin false m e) p = tt
 
-positive-value : (f : Format) (x : Float) → T (positive x) → (w : Sized f x) → HasValue x false (w .m * 2 ^ w .i) (2 ^ low f) × (num x * 2 ^ low f ≡ w .m * 2 ^ w .i * den x)
+positive-value : (f : Format) (x : Float) → T (positive x) → (w : UnitSize f x) → HasValue x false (w .m * 2 ^ w .i) (2 ^ low f) × (num x * 2 ^ low f ≡ w .m * 2 ^ w .i * den x)
 positive-value f nan p w = absurd p
 positive-value f (inf s) p w = absurd p
 positive-value f (fin true m e) p w = absurd p
@@ -130,7 +127,7 @@ wide binary64 k = omega arith
 
 pub root-nearest : (f : Format) (x : Float) → T (fits f x) → T (positive x) → Nearest f false 2 (num x) (den x) (sqrtOf f x)
 root-nearest f x t p =
-    let w = sized f false x t (positive-signed x p) in
+    let w = unit-size f false x t (positive-signed x p) in
     let q = w .m in
     let i = w .i in
     let v = positive-value f x p w in
@@ -143,7 +140,7 @@ root-nearest f x t p =
     let z = parts P q (l + i) (prec-pos f) Q (w .short) (wide f i) in
     let M = z .M in
     let same : q * 2 ^ i * 2 ^ l ≡ n = mul-assoc q (2 ^ i) (2 ^ l) ∙ ap (λ (y : ℕ). q * y) (mul-comm (2 ^ i) (2 ^ l) ∙ sym (pow-add 2 l i)) in
-    let cut : n / 4 ^ k ≡ M = ap (λ (y : ℕ). n / y) (four k) ∙ ap (λ (y : ℕ). y / S) (z .whole) ∙ mul-div-cancel M (mul-pos (pow-pos k) (pow-pos k)) in
+    let cut : n / 4 ^ k ≡ M = ap (λ (y : ℕ). n / y) (power-four k) ∙ ap (λ (y : ℕ). y / S) (z .whole) ∙ mul-div-cancel M (mul-pos (pow-pos k) (pow-pos k)) in
     let nb = nearest-bounds M (lt-of-lt-of-le (mul-pos (pow-pos (P - 1)) (pow-pos (P - 1))) (z .least)) in
     let r = nearestRoot M in
     subst (Nearest f false 2 (num x) (den x)) (sym (sqrt-of f x q i (v .0) Q ∙ root-units f n r k refl (ap nearestRoot (sym cut))))

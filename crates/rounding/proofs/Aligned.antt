@@ -1,7 +1,7 @@
 -- The root of q * 2 ^ j, of which p digits are kept, from that of q shifted to the top of a word. Assumes nothing.
-use mathlib.Core.Path.{_≡_, refl, sym, ap, _∙_, subst}
+use mathlib.Core.Path.{_≡_, refl, sym, ap, _∙_}
 use Prim.Native.Nat.{ℕ, zero, suc, _+_, _-_, _*_, _/_, _%_, _^_, _≤_, _<_}
-use native.Mathlib.Nat.{le-trans, le-of-eq, le-refl, lt-of-lt-of-le, lt-of-le-of-lt, mul-assoc, mul-comm, mul-left-comm, mul-right-comm, mul-mul-mul-comm, mul-le-mul-right, mul-pos, pow-suc, le-div-iff-mul-le}
+use native.Mathlib.Nat.{le-trans, le-of-eq, lt-of-lt-of-le, lt-of-le-of-lt, mul-assoc, mul-mul-mul-comm, mul-le-mul-right, pow-suc, one-le-pow, zero-lt-suc, le-div-iff-mul-le}
 use native.Mathlib.Omega.{arith}
 use lib.Pow.{pow-add, pow-pos, pow-mono, shl-lt, shl-exact}
 use lib.Count.{leadingZeros, leading-top}
@@ -12,12 +12,9 @@ use Rattle.rounding.specs.Inner.{Rootable, ScaledRoot}
 use Rattle.rounding.proofs.Pack.{size-is, pow-lt-back}
 use Rattle.rounding.proofs.WholeRoot.{nearest-ge}
 
-pub four : (k : ℕ) → 4 ^ k ≡ 2 ^ k * 2 ^ k
-four zero = refl
-four (suc k) = pow-suc 4 k ∙ ap (λ (x : ℕ). x * 4) (four k) ∙ mul-mul-mul-comm (2 ^ k) (2 ^ k) 2 2 ∙ ap (λ (x : ℕ). x * x) (sym (pow-suc 2 k))
-
-four-pos : (k : ℕ) → 0 < 4 ^ k
-four-pos k = lt-of-lt-of-le (mul-pos (pow-pos k) (pow-pos k)) (le-of-eq (sym (four k)))
+pub power-four : (k : ℕ) → 4 ^ k ≡ 2 ^ k * 2 ^ k
+power-four zero = refl
+power-four (suc k) = pow-suc 4 k ∙ ap (λ (x : ℕ). x * 4) (power-four k) ∙ mul-mul-mul-comm (2 ^ k) (2 ^ k) 2 2 ∙ ap (λ (x : ℕ). x * x) (sym (pow-suc 2 k))
 
 -- the places of a word, and those that a number of up to 53 digits leaves free
 pub lead : (q : ℕ) → 0 < q → q < 2 ^ 53 → (k : ℕ) × (leadingZeros 64 q + suc k ≡ 64) × (2 ^ k ≤ q) × (q < 2 ^ suc k) × (suc k ≤ 53)
@@ -27,9 +24,9 @@ lead q h l =
 
 aligned : (q j s p k : ℕ) → s + (p + k) * 2 ≡ j + 64 → q * 2 ^ j / 4 ^ k ≡ q * 2 ^ s * 4 ^ p / 2 ^ 64
 aligned q j s p k e =
-    div-same (q * 2 ^ j) (4 ^ k) (q * 2 ^ s * 4 ^ p) (2 ^ 64) (four-pos k) (pow-pos 64)
+    div-same (q * 2 ^ j) (4 ^ k) (q * 2 ^ s * 4 ^ p) (2 ^ 64) (one-le-pow k 4 (zero-lt-suc 3)) (pow-pos 64)
     (mul-assoc q (2 ^ j) (2 ^ 64)
-    ∙ ap (λ (x : ℕ). q * x) (sym (pow-add 2 j 64) ∙ ap (λ (x : ℕ). 2 ^ x) (sym e ∙ spread) ∙ pow-add 2 s (p + p + (k + k)) ∙ ap (λ (x : ℕ). 2 ^ s * x) (pow-add 2 (p + p) (k + k) ∙ ap (λ (x : ℕ). x * 2 ^ (k + k)) (pow-add 2 p p ∙ sym (four p)) ∙ ap (λ (x : ℕ). 4 ^ p * x) (pow-add 2 k k ∙ sym (four k))))
+    ∙ ap (λ (x : ℕ). q * x) (sym (pow-add 2 j 64) ∙ ap (λ (x : ℕ). 2 ^ x) (sym e ∙ spread) ∙ pow-add 2 s (p + p + (k + k)) ∙ ap (λ (x : ℕ). 2 ^ s * x) (pow-add 2 (p + p) (k + k) ∙ ap (λ (x : ℕ). x * 2 ^ (k + k)) (pow-add 2 p p ∙ sym (power-four p)) ∙ ap (λ (x : ℕ). 4 ^ p * x) (pow-add 2 k k ∙ sym (power-four k))))
     ∙ sym (mul-assoc q (2 ^ s) (4 ^ p * 4 ^ k))
     ∙ sym (mul-assoc (q * 2 ^ s) (4 ^ p) (4 ^ k)))
   where
@@ -41,13 +38,13 @@ root-low : (w p : ℕ) → 0 < p → 2 ^ 62 ≤ w → 2 ^ (p - 1) ≤ nearestRoo
 root-low w p P h =
     let a = 2 ^ (p - 1) in
     let i : suc (p - 1) ≡ p = omega arith in
-    let e : 4 ^ p ≡ a * a * 4 = ap (λ (x : ℕ). 4 ^ x) (sym i) ∙ pow-suc 4 (p - 1) ∙ ap (λ (x : ℕ). x * 4) (four (p - 1)) in
+    let e : 4 ^ p ≡ a * a * 4 = ap (λ (x : ℕ). 4 ^ x) (sym i) ∙ pow-suc 4 (p - 1) ∙ ap (λ (x : ℕ). x * 4) (power-four (p - 1)) in
     let m : 2 ^ 62 * (a * a * 4) ≤ w * 4 ^ p = le-trans (mul-le-mul-right (a * a * 4) h) (le-of-eq (ap (λ (x : ℕ). w * x) (sym e))) in
     nearest-ge (w * 4 ^ p / 2 ^ 64) a (le-div-iff-mul-le (pow-pos 64) .1 (omega arith))
 
-pub scaled : (q j p s r : ℕ) → Rootable q j p → s + (j + 64 - leadingZeros 64 q + 1) / 2 * 2 ≡ j + 64 → s ≤ leadingZeros 64 q → leadingZeros 64 q ≤ s + 1
+pub aligned-root : (q j p s r : ℕ) → Rootable q j p → s + (j + 64 - leadingZeros 64 q + 1) / 2 * 2 ≡ j + 64 → s ≤ leadingZeros 64 q → leadingZeros 64 q ≤ s + 1
     → r ≡ nearestRoot ((q * 2 ^ s) % 2 ^ 64 * 4 ^ p / 2 ^ 64) → r ≤ 2 ^ p → ScaledRoot q j p r ((j + 64 - leadingZeros 64 q + 1) / 2 - p)
-scaled q j p s r h e a b n u =
+aligned-root q j p s r h e a b n u =
     let z = leadingZeros 64 q in
     let len = j + 64 - z in
     let k = (len + 1) / 2 - p in

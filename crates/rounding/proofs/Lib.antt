@@ -1,4 +1,5 @@
 pub mod Compare
+pub mod Quotients
 pub mod Pack
 pub mod Roots
 pub mod Rounding

@@ -1,8 +1,8 @@
 -- A value's bits, from its size in units of the format's smallest value. Assumes nothing.
 use mathlib.Core.Path.{_≡_, refl, sym, ap, _∙_, subst}
 use mathlib.Core.Logic.{_⊎_, inl, inr}
-use Prim.Native.Nat.{ℕ, suc, _+_, _-_, _*_, _/_, _^_, _≤_, _<_, min}
-use native.Mathlib.Nat.{le-trans, le-of-eq, le-refl, lt-of-lt-of-le, lt-of-le-of-lt, lt-of-not-le, not-le-of-lt, lt-irrefl, le-antisymm, eq-or-lt-of-le, mul-one, mul-comm, mul-assoc, mul-div-cancel, mul-le-mul-right, lt-of-mul-lt-mul-right, le-of-mul-le-mul-right, suc-mul, add-assoc, pow-suc}
+use Prim.Native.Nat.{ℕ, suc, _+_, _-_, _*_, _/_, _^_, _≤_, _<_}
+use native.Mathlib.Nat.{le-trans, le-of-eq, le-refl, lt-of-lt-of-le, lt-of-le-of-lt, lt-of-not-le, not-le-of-lt, lt-irrefl, le-antisymm, eq-or-lt-of-le, min-eq-left, min-eq-right, mul-one, mul-comm, mul-assoc, mul-div-cancel, mul-le-mul-right, lt-of-mul-lt-mul-right, le-of-mul-le-mul-right, suc-mul, add-assoc, pow-suc}
 use native.Mathlib.Omega.{arith}
 use mathlib.Core.Bool.{Bool, true, false, not, cond}
 use lib.Dec.{T, ltb, ltb→lt, nltb→le, lit≤}
@@ -21,6 +21,22 @@ size-gt n j h = lt-of-not-le (λ (g : size n ≤ j). not-le-of-lt (lt-of-lt-of-l
 
 pub size-is : (n j : ℕ) → 2 ^ j ≤ n → n < 2 ^ suc j → size n ≡ suc j
 size-is n j lo hi = le-antisymm (size-le n (suc j) hi) (size-gt n j lo)
+
+-- of p + k digits k are dropped to keep p, and of p or fewer none
+pub drops : (n p k : ℕ) → 0 < p → 2 ^ (p - 1 + k) ≤ n → n < 2 ^ (p + k) → size n - p ≡ k
+drops n p k P lo hi = less (size n) (size-is n (p - 1 + k) lo (subst (λ (x : ℕ). n < 2 ^ x) next hi))
+  where
+    next : p + k ≡ suc (p - 1 + k)
+    next = omega arith
+
+    less : (z : ℕ) → z ≡ suc (p - 1 + k) → z - p ≡ k
+    less z e = omega arith
+
+pub drops-none : (n p : ℕ) → n < 2 ^ p → size n - p ≡ 0
+drops-none n p h = less (size n) (size-le n p h)
+  where
+    less : (z : ℕ) → z ≤ p → z - p ≡ 0
+    less z l = omega arith
 
 pub pow-lt-back : (i p : ℕ) → 2 ^ i < 2 ^ p → i < p
 pow-lt-back i p h = lt-of-not-le (λ (g : p ≤ i). lt-irrefl (2 ^ i) (lt-of-lt-of-le h (pow-mono g)))
@@ -50,57 +66,47 @@ unfolding toBits
 of-inf f s = ofBits-toBits f (inf s) (inf-fits f s)
 
 -- ---- q * 2 ^ k, with q of p digits at most, and of p where digits are dropped: k * 2 ^ (p - 1) + q are its bits
-abbrev Written : ℕ → ℕ → ℕ → Type 0
-Written p a w = (size a - p) * 2 ^ (p - 1) + a / 2 ^ (size a - p) ≡ w
+abbrev Packed : ℕ → ℕ → ℕ → Type 0
+Packed p a w = (size a - p) * 2 ^ (p - 1) + a / 2 ^ (size a - p) ≡ w
 
-written-at : (p a k q h w : ℕ) → size a - p ≡ k → a ≡ q * 2 ^ k → h ≡ 2 ^ (p - 1) → k * h + q ≡ w → Written p a w
-written-at p a k q h w e v i r =
+packed-at : (p a k q h w : ℕ) → size a - p ≡ k → a ≡ q * 2 ^ k → h ≡ 2 ^ (p - 1) → k * h + q ≡ w → Packed p a w
+packed-at p a k q h w e v i r =
     ap (λ (z : ℕ). z * 2 ^ (p - 1) + a / 2 ^ z) e
     ∙ ap (λ (z : ℕ). k * 2 ^ (p - 1) + z / 2 ^ k) v
     ∙ ap (λ (z : ℕ). k * 2 ^ (p - 1) + z) (mul-div-cancel q (pow-pos k))
     ∙ ap (λ (z : ℕ). k * z + q) (sym i)
     ∙ r
 
-drops : (z p k : ℕ) → 0 < p → z ≡ suc (p - 1 + k) → z - p ≡ k
-drops z p k P e = omega arith
-
-one-more : (p k : ℕ) → 0 < p → p + k ≡ suc (p - 1 + k)
-one-more p k P = omega arith
-
-none : (z p : ℕ) → z ≤ p → z - p ≡ 0
-none z p h = omega arith
-
-full : (p q k : ℕ) → 0 < p → 2 ^ (p - 1) ≤ q → q < 2 ^ p → Written p (q * 2 ^ k) (k * 2 ^ (p - 1) + q)
+full : (p q k : ℕ) → 0 < p → 2 ^ (p - 1) ≤ q → q < 2 ^ p → Packed p (q * 2 ^ k) (k * 2 ^ (p - 1) + q)
 full p q k P lo hi =
-    written-at p (q * 2 ^ k) k q (2 ^ (p - 1)) (k * 2 ^ (p - 1) + q)
-    (drops (size (q * 2 ^ k)) p k P
-    (size-is (q * 2 ^ k) (p - 1 + k) (le-trans (le-of-eq (pow-add 2 (p - 1) k)) (mul-le-mul-right (2 ^ k) lo)) (subst (λ (x : ℕ). q * 2 ^ k < 2 ^ x) (one-more p k P) (shl-lt p k hi))))
+    packed-at p (q * 2 ^ k) k q (2 ^ (p - 1)) (k * 2 ^ (p - 1) + q)
+    (drops (q * 2 ^ k) p k P (le-trans (le-of-eq (pow-add 2 (p - 1) k)) (mul-le-mul-right (2 ^ k) lo)) (shl-lt p k hi))
     refl refl refl
 
-flat : (p q : ℕ) → q < 2 ^ p → Written p (q * 2 ^ 0) (0 * 2 ^ (p - 1) + q)
-flat p q hi = written-at p (q * 2 ^ 0) 0 q (2 ^ (p - 1)) (0 * 2 ^ (p - 1) + q) (none (size (q * 2 ^ 0)) p (size-le (q * 2 ^ 0) p (subst (λ (x : ℕ). x < 2 ^ p) (sym (mul-one q)) hi))) refl refl refl
+flat : (p q : ℕ) → q < 2 ^ p → Packed p (q * 2 ^ 0) (0 * 2 ^ (p - 1) + q)
+flat p q hi = packed-at p (q * 2 ^ 0) 0 q (2 ^ (p - 1)) (0 * 2 ^ (p - 1) + q) (drops-none (q * 2 ^ 0) p (subst (λ (x : ℕ). x < 2 ^ p) (sym (mul-one q)) hi)) refl refl refl
 
-carried : (p q k : ℕ) → 0 < p → q ≡ 2 ^ p → Written p (q * 2 ^ k) (k * 2 ^ (p - 1) + q)
+carried : (p q k : ℕ) → 0 < p → q ≡ 2 ^ p → Packed p (q * 2 ^ k) (k * 2 ^ (p - 1) + q)
 carried p q k P e =
     let h = 2 ^ (p - 1) in
     let a : q * 2 ^ k ≡ h * 2 ^ suc k = ap (λ (x : ℕ). x * 2 ^ k) (e ∙ twice p P) ∙ mul-assoc h 2 (2 ^ k) ∙ ap (λ (x : ℕ). h * x) (mul-comm 2 (2 ^ k) ∙ sym (pow-suc 2 k)) in
     let b : q * 2 ^ k ≡ 2 ^ (p + k) = ap (λ (x : ℕ). x * 2 ^ k) e ∙ sym (pow-add 2 p k) in
-    written-at p (q * 2 ^ k) (suc k) h h (k * h + q)
+    packed-at p (q * 2 ^ k) (suc k) h h (k * h + q)
     (carry (size (q * 2 ^ k)) (size-is (q * 2 ^ k) (p + k) (le-of-eq (sym b)) (lt-of-le-of-lt (le-of-eq b) (pow-lt (le-refl (suc (p + k)))))))
-    a refl (last (suc k * h) (k * h) h q (suc-mul k h) (e ∙ twice p P))
+    a refl (carry-bits (suc k * h) (k * h) h q (suc-mul k h) (e ∙ twice p P))
   where
     carry : (z : ℕ) → z ≡ suc (p + k) → z - p ≡ suc k
     carry z e = omega arith
 
-    last : (x y h q : ℕ) → x ≡ y + h → q ≡ h * 2 → x + h ≡ y + q
-    last x y h q a b = omega arith
+    carry-bits : (x y h q : ℕ) → x ≡ y + h → q ≡ h * 2 → x + h ≡ y + q
+    carry-bits x y h q a b = omega arith
 
-pub written : (p q k : ℕ) → 0 < p → q ≤ 2 ^ p → (k ≡ 0) ⊎ (2 ^ (p - 1) ≤ q) → Written p (q * 2 ^ k) (k * 2 ^ (p - 1) + q)
-written p q k P hi lo = go (eq-or-lt-of-le hi) lo
+pub packed : (p q k : ℕ) → 0 < p → q ≤ 2 ^ p → (k ≡ 0) ⊎ (2 ^ (p - 1) ≤ q) → Packed p (q * 2 ^ k) (k * 2 ^ (p - 1) + q)
+packed p q k P hi lo = go (eq-or-lt-of-le hi) lo
   where
-    go : (q ≡ 2 ^ p) ⊎ (q < 2 ^ p) → (k ≡ 0) ⊎ (2 ^ (p - 1) ≤ q) → Written p (q * 2 ^ k) (k * 2 ^ (p - 1) + q)
+    go : (q ≡ 2 ^ p) ⊎ (q < 2 ^ p) → (k ≡ 0) ⊎ (2 ^ (p - 1) ≤ q) → Packed p (q * 2 ^ k) (k * 2 ^ (p - 1) + q)
     go (inl e) l = carried p q k P e
-    go (inr g) (inl z) = subst (λ (x : ℕ). Written p (q * 2 ^ x) (x * 2 ^ (p - 1) + q)) (sym z) (flat p q g)
+    go (inr g) (inl z) = subst (λ (x : ℕ). Packed p (q * 2 ^ x) (x * 2 ^ (p - 1) + q)) (sym z) (flat p q g)
     go (inr g) (inr l) = full p q k P l g
 
 -- ---- where the largest values end: at `ones` times `hid` in bits, at h * 2 ^ (o - 1) in units
@@ -176,20 +182,14 @@ pack f s q k hi lo = go (ltb (q * 2 ^ k) (2 ^ (low f + suc (emax f)))) (ltb→lt
     hi' : q ≤ hid f * 2
     hi' = le-trans hi (le-of-eq (hid-twice f))
 
-    first : (a b : ℕ) → a ≤ b → min a b ≡ a
-    first a b h = omega arith
-
-    second : (a b : ℕ) → b ≤ a → min a b ≡ b
-    second a b h = omega arith
-
     go : (b : Bool) → (T b → q * 2 ^ k < 2 ^ (low f + suc (emax f))) → (T (not b) → 2 ^ (low f + suc (emax f)) ≤ q * 2 ^ k)
         → ofBits f (cond s (top f) 0 + pattern f q k) ≡ cond b (odd (suc (prec f)) s q k (low f)) (inf s)
     go true l g =
         ap (λ (x : ℕ). ofBits f (cond s (top f) 0 + x))
-        (first (k * hid f + q) (ones f * hid f) (below-end (ones f) (hid f) q k (some-ones f) (pow-pos (prec f - 1)) hi' lo (subst (λ (x : ℕ). q * 2 ^ k < x) (end-is f) (l tt)))
-        ∙ sym (written (prec f) q k (prec-pos f) hi lo))
+        (min-eq-left (below-end (ones f) (hid f) q k (some-ones f) (pow-pos (prec f - 1)) hi' lo (subst (λ (x : ℕ). q * 2 ^ k < x) (end-is f) (l tt)))
+        ∙ sym (packed (prec f) q k (prec-pos f) hi lo))
         ∙ of-value f s (q * 2 ^ k) (odd (suc (prec f)) s q k (low f)) (odd-fits f (suc (prec f)) s q k (lt-of-le-of-lt hi (pow-lt (le-refl (suc (prec f))))) hi (l tt)) (odd-sign (suc (prec f)) s q k (low f))
     go false l g =
         ap (λ (x : ℕ). ofBits f (cond s (top f) 0 + x))
-        (second (k * hid f + q) (ones f * hid f) (past-end (ones f) (hid f) q k (some-ones f) (pow-pos (prec f - 1)) hi' lo (subst (λ (x : ℕ). x ≤ q * 2 ^ k) (end-is f) (g tt))))
+        (min-eq-right (past-end (ones f) (hid f) q k (some-ones f) (pow-pos (prec f - 1)) hi' lo (subst (λ (x : ℕ). x ≤ q * 2 ^ k) (end-is f) (g tt))))
         ∙ of-inf f s

@@ -1,8 +1,7 @@
 -- What the private functions' contracts cite. A reader of the public promises can pass this file by.
 use Prim.Native.Nat.{ℕ, _+_, _-_, _*_, _/_, _^_, _≤_, _<_, min}
 use mathlib.Core.Path.{_≡_}
-use mathlib.Core.Bool.{Bool, cond}
-use lib.Ieee.{Format, hid, ones, top, size}
+use lib.Ieee.{Format, hid, ones, size}
 use Rattle.rounding.specs.Root.{nearestRoot}
 
 -- q and rest are the root and the remainder of w * 4 ^ n / 2 ^ 64
@@ -31,7 +30,3 @@ pub record ScaledRoot (q j p r k : ℕ) : Type 0 where
 -- the bits of r * 2 ^ k units, without the sign: an infinity's where they are too many
 abbrev pub pattern : Format → ℕ → ℕ → ℕ
 pattern f r k = min (k * hid f + r) (ones f * hid f)
-
--- the weight of the sign
-abbrev pub signBit : Format → Bool → ℕ
-signBit f s = cond s (top f) 0

@@ -1,3 +1,4 @@
 pub mod Root
 pub mod Narrow
+pub mod Quotient
 pub mod Inner

@@ -5,30 +5,13 @@ ghost use mathlib.Core.Path.{_≡_};
 ghost use mathlib.Core.Bool.{Bool, cond};
 ghost use Prim.Native.Nat.{_+_, _^_, _≤_, _<_, min};
 ghost use lib.Ieee.{binary32, binary64, ofBits, ofFields};
-ghost use lib.Ieee.Nearest.{closest};
 ghost use Rattle.rounding.specs.Narrow.{narrowOf};
+use crate::quotient::nearest_quotient;
 
 pub(crate) fn lesser(a: u64, b: u64) -> u64
     ensures { λ r. ⌜ r ≡ min a b ⌝ }
 {
     if a < b { a } else { b }
-}
-
-// q / h to the nearest whole number, a tie to the even one.
-fn nearest_quotient(q: u64, h: u64) -> u64
-    requires { ⌜ q < 2 ^ 53 ⌝ ∗ ⌜ 0 < h ⌝ }
-    ensures { λ r. ⌜ r ≡ closest q h ⌝ }
-{
-    let whole = q / h;
-    let rest = q % h;
-    let gap = h - rest;
-    if rest < gap {
-        return whole;
-    }
-    if gap < rest {
-        return whole + 1;
-    }
-    whole + whole % 2
 }
 
 // The bits, without the sign, of the f32 nearest to the f64 of these fields.

@@ -2,15 +2,8 @@
 use mathlib.Core.Path.{sym, _∙_}
 use denote.Ref.{now}
 use Rattle.float.proofs.Outcome.{Single, SingleLent}
-use Rattle.wav.proofs.header as header
 use Rattle.wav.proofs.sample as sample
 use Rattle.wav.proofs.frames as frames
-
-pub number-single : Single header.number.Reads.Post
-number-single κs a r r' s s' p q = p ∙ sym q
-
-pub read-single : Single header.read.Reads.Post
-read-single κs a r r' s s' p q = p ∙ sym q
 
 pub sample-in-single : Single sample.sample_in.Reads.Post
 sample-in-single κs a r r' s s' p q = p ∙ sym q

@@ -1,8 +1,8 @@
 -- 16-bit numbers with a sign, as the machine holds them. Assumes nothing.
 use mathlib.Core.Path.{_≡_, refl, sym, ap, _∙_}
 use mathlib.Core.Bool.{Bool, true, false, cond, true≢false, false≢true}
-use Prim.Native.Nat.{ℕ, zero, suc, _-_, _*_, _<_, _≤_, zero-le, min}
-use native.Mathlib.Nat.{zero-add}
+use Prim.Native.Nat.{ℕ, zero, suc, _-_, _*_, _<_, _≤_, zero-le}
+use native.Mathlib.Nat.{zero-add, min-le-right}
 use native.Mathlib.Omega.{arith}
 use borrow.Author.Tests.{ltb-true, ltb-false, lt-ltb, le-ltb, le-leb}
 use lib.IntN.{ℤ, pos, negsuc, _-ℤ_, natAbs}
@@ -13,22 +13,22 @@ use lib.Ieee.Nearest.{closest}
 use mir.Syntax.{w16}
 use mir.Val.{toZ, ofZ}
 use mir.Facts.{toZ-ofZ}
-use Rattle.wav.specs.Bytes.{signedOf, codeOf}
+use Rattle.wav.specs.Pcm.{signedOf, codeOf}
 use Rattle.wav.specs.Sample.{stepsOf, negative, heldOf, sampleOut}
 
 -- what is written and read back
 pub came : {z y : ℤ} → z ≡ y → mag y < 32768 → toZ w16 (ofZ w16 z) ≡ y
 came {z} {y} e h = ap (λ (x : ℤ). toZ w16 (ofZ w16 x)) e ∙ toZ-ofZ (record { sfits = h })
 
-pub held : (z : ℤ) → mag z < 32768 → toZ w16 (ofZ w16 z) ≡ z
-held z h = came refl h
+pub read-back : (z : ℤ) → mag z < 32768 → toZ w16 (ofZ w16 z) ≡ z
+read-back z h = came refl h
 
 -- -1 - n, and back
 pub less-one : (n : ℕ) → negsuc 0 -ℤ pos n ≡ negsuc n
 less-one zero = refl
 less-one (suc n) = ap (λ (k : ℕ). negsuc (suc k)) (zero-add n)
 
-pub back-one : (n : ℕ) → negsuc 0 -ℤ negsuc n ≡ pos n
+back-one : (n : ℕ) → negsuc 0 -ℤ negsuc n ≡ pos n
 back-one n = rw (le-ltb (suc n) 1 (omega arith)) (ap pos (omega arith))
 
 -- a number with a sign has 16 bits
@@ -52,15 +52,21 @@ below-is zero h = absurd (h refl)
 below-is (suc n) h = ap negsuc (omega arith)
 
 -- ---- the code of a number
-pub above : (z : ℤ) → mag z < 32768 → leZ (pos 0) z ≡ true → T (nonNeg z) × (natAbs z ≡ codeOf z) × (natAbs z < 65536)
-unfolding codeOf
-above (pos n) h e = (tt, refl, omega arith)
-above (negsuc n) h e = absurd (false≢true e)
+abbrev pub CodeAbove : ℤ → Type 0
+CodeAbove z = T (nonNeg z) × (natAbs z ≡ codeOf z) × (natAbs z < 65536)
 
-pub below : (z : ℤ) → leZ (pos 0) z ≡ false → (negsuc 0 -ℤ z ≡ pos (mag z)) × (65535 - mag z ≡ codeOf z)
+pub code-above : (z : ℤ) → mag z < 32768 → leZ (pos 0) z ≡ true → CodeAbove z
 unfolding codeOf
-below (pos n) e = absurd (true≢false (sym (le-leb 0 n zero-le) ∙ e))
-below (negsuc n) e = (back-one n, refl)
+code-above (pos n) h e = (tt, refl, omega arith)
+code-above (negsuc n) h e = absurd (false≢true e)
+
+abbrev pub CodeBelow : ℤ → Type 0
+CodeBelow z = (negsuc 0 -ℤ z ≡ pos (mag z)) × (65535 - mag z ≡ codeOf z)
+
+pub code-below : (z : ℤ) → leZ (pos 0) z ≡ false → CodeBelow z
+unfolding codeOf
+code-below (pos n) e = absurd (true≢false (sym (le-leb 0 n zero-le) ∙ e))
+code-below (negsuc n) e = (back-one n, refl)
 
 pub signed-low : (n : ℕ) → n < 32768 → pos n ≡ signedOf n
 unfolding signedOf
@@ -83,10 +89,7 @@ pub out-small : (x : Float) → mag (sampleOut x) < 32768
 unfolding sampleOut stepsOf
 out-small x = held-small (negative x) (stepsOf x) (few x)
   where
-    less : (n : ℕ) → min n 32768 ≤ 32768
-    less n = omega arith
-
     few : (x : Float) → stepsOf x ≤ 32768
     few nan = zero-le
     few (inf s) = lit≤ tt
-    few (fin s m e) = less (closest (m * up e * 32768) (down e))
+    few (fin s m e) = min-le-right (closest (m * up e * 32768) (down e)) 32768

@@ -2,7 +2,7 @@
 use mathlib.Core.Path.{_≡_, refl, sym, ap, _∙_, subst}
 use mathlib.Core.Bool.{Bool, true, false, cond}
 use Prim.Native.Nat.{ℕ, zero, suc, _+_, _-_, _*_, _/_, _%_, _^_, _≤_, _<_, min}
-use native.Mathlib.Nat.{le-trans, le-of-eq, lt-of-lt-of-le, lt-of-le-of-lt, le-of-lt, mul-one, mul-comm, mul-assoc, mul-right-comm, mul-le-mul-left, mul-le-mul-right, mul-pos}
+use native.Mathlib.Nat.{le-trans, le-add-right, min-eq-left, min-eq-right, le-of-eq, lt-of-lt-of-le, lt-of-le-of-lt, le-of-lt, mul-one, mul-comm, mul-assoc, mul-right-comm, mul-le-mul-left, mul-le-mul-right, mul-pos}
 use native.Mathlib.Omega.{arith}
 use borrow.Author.Tests.{eqb-true, eqb-false, ne-eqb}
 use lib.Arith.{lt-of-le-ne}
@@ -18,7 +18,7 @@ use lib.Ieee.Nearest.{closest, closest-same, closest-mono}
 use lib.Ieee.Scale.{round-same}
 use mir.Syntax.{w16}
 use mir.Val.{toZ, ofZ}
-use Rattle.rounding.proofs.Narrowing.{closest-le, one-shl}
+use Rattle.rounding.proofs.Quotients.{closest-zero, closest-le}
 use Rattle.rounding.proofs.Rounding.{low-field, high-field}
 use Rattle.wav.specs.Sample.{sampleIn, stepsOf, negative, heldOf, sampleOut}
 use Rattle.wav.proofs.Signed.{came, held-small}
@@ -42,22 +42,13 @@ module _ (s : Bool) (a c : ℕ) (C : 0 < c) where
 
   -- at most a half of a step, and 1 at least
   pub no-steps : a * 32768 * 2 ≤ c → min (closest (a * 32768) c) 32768 ≡ 0
-  no-steps h = none (closest (a * 32768) c) (closest-mono (a * 32768) c 1 2 C (lit< tt) (le-trans h (le-of-eq (one c))))
-    where
-      none : (n : ℕ) → n ≤ 0 → min n 32768 ≡ 0
-      none n l = omega arith
-
-      one : (n : ℕ) → n ≡ 1 * n
-      one n = omega arith
+  no-steps h = ap (λ (n : ℕ). min n 32768) (closest-zero (a * 32768) c C h)
 
   pub all-steps : c ≤ a → min (closest (a * 32768) c) 32768 ≡ 32768
-  all-steps h = full (closest (a * 32768) c) (closest-mono 32768 1 (a * 32768) c (lit< tt) C (scaled a c h))
+  all-steps h = min-eq-right (closest-mono 32768 1 (a * 32768) c (lit< tt) C (whole a c h))
     where
-      full : (n : ℕ) → 32768 ≤ n → min n 32768 ≡ 32768
-      full n l = omega arith
-
-      scaled : (a c : ℕ) → c ≤ a → 32768 * c ≤ a * 32768 * 1
-      scaled a c l = omega arith
+      whole : (a c : ℕ) → c ≤ a → 32768 * c ≤ a * 32768 * 1
+      whole a c l = omega arith
 
 -- ---- of a float with these fields
 abbrev pub Steps : ℕ → ℕ → ℕ → Type 0
@@ -88,10 +79,7 @@ large-steps zero t n h l s = absurd (omega arith)
 large-steps (suc x) t n h l s =
     sym
     (field-steps s x t (lt-of-le-ne (omega arith) (λ e. n (ap suc e)))
-    ∙ all-steps s ((2 ^ 23 + t) * 2 ^ x) (2 ^ 149) (pow-pos 149) (le-trans (mul-le-mul-left (2 ^ 23) (pow-mono {i = 126} {j = x} (omega arith))) (mul-le-mul-right (2 ^ x) (lead t))))
-  where
-    lead : (t : ℕ) → 2 ^ 23 ≤ 2 ^ 23 + t
-    lead t = omega arith
+    ∙ all-steps s ((2 ^ 23 + t) * 2 ^ x) (2 ^ 149) (pow-pos 149) (le-trans (mul-le-mul-left (2 ^ 23) (pow-mono {i = 126} {j = x} (omega arith))) (mul-le-mul-right (2 ^ x) (le-add-right (2 ^ 23) t))))
 
 -- less than half a step
 pub small-steps : (field digits : ℕ) → field < 111 → digits < 2 ^ 23 → Steps field digits 0
@@ -109,14 +97,11 @@ small-steps (suc x) t h l s =
     (le-trans (le-of-eq (mul-assoc ((2 ^ 23 + t) * 2 ^ x) 32768 2)) (le-trans (mul-le-mul-right (2 ^ 16) (le-of-lt (shl-lt 24 x (omega arith)))) (le-trans (le-of-eq (sym (pow-add 2 (24 + x) 16))) (pow-mono {i = 24 + x + 16} {j = 149} (omega arith))))))
 
 -- between them
-scaled : (q x d : ℕ) → x + 15 + d ≡ 149 → q * 2 ^ x * 32768 * 2 ^ d ≡ q * 2 ^ 149
-scaled q x d e =
+sample-units : (q x d : ℕ) → x + 15 + d ≡ 149 → q * 2 ^ x * 32768 * 2 ^ d ≡ q * 2 ^ 149
+sample-units q x d e =
     ap (λ (n : ℕ). n * 2 ^ d) (mul-assoc q (2 ^ x) (2 ^ 15) ∙ ap (λ (n : ℕ). q * n) (sym (pow-add 2 x 15)))
     ∙ mul-assoc q (2 ^ (x + 15)) (2 ^ d)
     ∙ ap (λ (n : ℕ). q * n) (sym (pow-add 2 (x + 15) d) ∙ ap (λ (n : ℕ). 2 ^ n) e)
-
-kept : (n : ℕ) → n ≤ 32768 → min n 32768 ≡ n
-kept n h = omega arith
 
 pub middle-steps : (field digits n : ℕ) → 111 ≤ field → field < 127 → digits < 2 ^ 23 → n ≡ closest (2 ^ 23 + digits) (2 ^ (135 - field)) → Steps field digits n × (n ≤ 32768)
 middle-steps zero t n h l d e = absurd (omega arith)
@@ -129,24 +114,13 @@ middle-steps (suc x) t n h l d e =
           e
           ∙ sym
           (field-steps s x t (omega arith)
-          ∙ ap (λ (z : ℕ). min z 32768) (closest-same (q * 2 ^ x * 32768) (2 ^ 149) q (2 ^ k) (pow-pos 149) (pow-pos k) (scaled q x k (omega arith)))
-          ∙ kept (closest q (2 ^ k)) low),
+          ∙ ap (λ (z : ℕ). min z 32768) (closest-same (q * 2 ^ x * 32768) (2 ^ 149) q (2 ^ k) (pow-pos 149) (pow-pos k) (sample-units q x k (omega arith)))
+          ∙ min-eq-left low),
       le-trans (le-of-eq e) low,
     )
   where
     lead : (t : ℕ) → t < 2 ^ 23 → 2 ^ 23 + t < 2 ^ 24
     lead t d = omega arith
-
--- the divisor as the code has it
-pub doubled : (field : ℕ) → 111 ≤ field → field < 127 → 2 * (1 * 2 ^ (134 - field) % 2 ^ 64) ≡ 2 ^ (135 - field)
-doubled field h l =
-    ap (λ (n : ℕ). 2 * n) (one-shl (134 - field) (omega arith))
-    ∙ mul-comm 2 (2 ^ (134 - field))
-    ∙ sym (pow-add 2 (134 - field) 1)
-    ∙ ap (λ (n : ℕ). 2 ^ n) (next field h l)
-  where
-    next : (x : ℕ) → 111 ≤ x → x < 127 → 134 - x + 1 ≡ 135 - x
-    next x h l = omega arith
 
 -- ---- of a float with these bits
 

@@ -4,7 +4,8 @@ use mathlib.Core.List.{List, [], _∷_, _++_}
 use lib.ListN.{length, drop, getD}
 use lib.Ieee.{Float, nan}
 use Rattle.wav.specs.Sample.{sampleIn, sampleOut}
-use Rattle.wav.specs.Bytes.{twoAt, signedOf, codeOf}
+use Rattle.wav_bytes.specs.Bytes.{twoAt}
+use Rattle.wav.specs.Pcm.{signedOf, codeOf}
 
 -- how many whole frames these bytes and these samples both hold
 unfoldable pub wholeFrames : List ℕ → List Float → ℕ

@@ -1,5 +1,3 @@
-pub mod Whole
 pub mod Sample
-pub mod Bytes
+pub mod Pcm
 pub mod Frames
-pub mod Header

@@ -1,5 +1,5 @@
 -- A 16-bit sample and the float that stands for it: "A sample is s / 32768; out goes the nearest whole number to 32768 x, ties to even, held to -32768..32767, NaN as 0." Definitions only.
--- `round binary32 s a b` is the f32 nearest to a / b, negative where s is true, and `closest a b` the whole number nearest to a / b, a tie to the even one. That no sample is rounded on its way in, that `closest` is nearest, and that every sample comes back as it went in, is proved in proofs/Evidence.antt.
+-- `round binary32 s a b` is the f32 nearest to a / b, negative where s is true, and `closest a b` the whole number nearest to a / b, a tie to the even one. That no sample is rounded on its way in, that out goes the nearest whole number, and that every sample comes back as it went in, is stated and proved in crate `wav_evidence`.
 -- A finite float `fin s m e` is m * 2 ^ e, negative where s is true; 2 ^ e is the fraction up e / down e. A whole number is `pos n`, which is n, or `negsuc n`, which is -(n + 1).
 use Prim.Native.Nat.{ℕ, suc, _*_, min}
 use mathlib.Core.Bool.{Bool, true, false}

@@ -1,18 +1,23 @@
 // Blocks of frames, two samples or four bytes each.
 ghost use mathlib.Core.Path.{_≡_};
-ghost use Prim.Native.Nat.{_+_, _*_, _<_, min};
+ghost use Prim.Native.Nat.{_+_, _*_, _/_, _<_, min};
 ghost use lib.ListN.{length, set};
 ghost use Rattle.wav.specs.Frames.{wholeFrames, sampleAt, lowOf, highOf, samplesIn, bytesOut};
-use crate::bytes::code;
-use crate::bytes::signed;
-use crate::bytes::two_at;
+use crate::pcm::code;
+use crate::pcm::signed;
 use crate::sample::sample_in;
 use crate::sample::sample_out;
+use wav_bytes::two_at;
 
-fn lesser(a: usize, b: usize) -> usize
-    ensures { λ r. ⌜ r ≡ min a b ⌝ }
+// How many whole frames this many bytes and this many samples both hold.
+fn whole_frames(bytes: usize, samples: usize) -> usize
+    ensures { λ r. ⌜ r ≡ min (bytes / 4) (samples / 2) ⌝ }
 {
-    if a < b { a } else { b }
+    if bytes / 4 < samples / 2 {
+        bytes / 4
+    } else {
+        samples / 2
+    }
 }
 
 fn sample_at(bytes: &[u8], i: usize) -> f32
@@ -26,7 +31,7 @@ fn sample_at(bytes: &[u8], i: usize) -> f32
 pub fn frames_in(bytes: &[u8], samples: &mut [f32]) -> usize
     ensures { λ r. ⌜ (r ≡ wholeFrames (now (bytes .entry)) (now (samples .entry))) × (now (samples .exit) ≡ samplesIn (now (bytes .entry)) (now (samples .entry))) ⌝ }
 {
-    let frames = lesser(bytes.len() / 4, samples.len() / 2);
+    let frames = whole_frames(bytes.len(), samples.len());
     let n = 2 * frames;
     let mut i = 0;
     while i < n {
@@ -49,7 +54,7 @@ fn put_sample(bytes: &mut [u8], i: usize, x: f32)
 pub fn frames_out(samples: &[f32], bytes: &mut [u8]) -> usize
     ensures { λ r. ⌜ (r ≡ wholeFrames (now (bytes .entry)) (now (samples .entry))) × (now (bytes .exit) ≡ bytesOut (now (samples .entry)) (now (bytes .entry))) ⌝ }
 {
-    let frames = lesser(bytes.len() / 4, samples.len() / 2);
+    let frames = whole_frames(bytes.len(), samples.len());
     let n = 2 * frames;
     let mut i = 0;
     while i < n {

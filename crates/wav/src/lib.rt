@@ -1,6 +1,5 @@
-// WAV files of 16-bit stereo samples, on slices: the 44-byte header, a sample in and out, and blocks
-// of frames. Nothing here has a `requires`.
-mod bytes;
+// The samples of WAV files of 16-bit stereo, on slices: a sample in and out, and blocks of frames.
+// Nothing here has a `requires`.
 pub mod frames;
-pub mod header;
+mod pcm;
 pub mod sample;

@@ -1,26 +1,17 @@
 // A 16-bit sample and the float that stands for it.
 ghost use mathlib.Core.Path.{_≡_};
 ghost use mathlib.Core.Bool.{Bool, true, false};
-ghost use Prim.Native.Nat.{_*_, _^_, _≤_, _<_};
+ghost use Prim.Native.Nat.{_^_, _≤_, _<_};
 ghost use lib.Ieee.{binary32, ofFields};
-ghost use lib.Ieee.Nearest.{closest};
-ghost use lib.IntN.{negsuc};
 ghost use Rattle.wav.specs.Sample.{sampleIn, sampleOut, stepsOf, heldOf};
+use crate::pcm::complement;
 use float::bits::to_bits_f32;
+use rounding::quotient::nearest_quotient;
 
 pub fn sample_in(s: i16) -> f32
     ensures { λ r. ⌜ r ≡ sampleIn s ⌝ }
 {
     (s as f32) / 32768.0
-}
-
-// q / (2 * half) to the nearest whole number, a tie to the even one: half less one is added, and one
-// more where the whole part is odd.
-fn nearest(q: u64, half: u64) -> u64
-    requires { ⌜ q < 2 ^ 24 ⌝ ∗ ⌜ (0 < half) × (half < 2 ^ 24) ⌝ }
-    ensures { λ r. ⌜ r ≡ closest q (2 * half) ⌝ }
-{
-    (q + (half - 1) + q / (2 * half) % 2) / (2 * half)
 }
 
 // Of the float with these fields: its magnitude times 32768, to the nearest whole number, a tie to
@@ -42,15 +33,7 @@ fn steps(field: u64, digits: u64) -> u64
     if field < 111 {
         return 0;
     }
-    nearest(0x80_0000 + digits, 1 << (134 - field))
-}
-
-// -1 - n.
-pub(crate) fn negative(n: u64) -> i16
-    requires { ⌜ n < 32768 ⌝ }
-    ensures { λ r. ⌜ r ≡ negsuc n ⌝ }
-{
-    -1 - (n as i16)
+    nearest_quotient(0x80_0000 + digits, 1 << (135 - field))
 }
 
 fn above_zero(n: u64) -> i16
@@ -63,7 +46,7 @@ fn below_zero(n: u64) -> i16
     requires { ⌜ n ≤ 32768 ⌝ }
     ensures { λ r. ⌜ r ≡ heldOf true n ⌝ }
 {
-    if n == 0 { 0 } else { negative(n - 1) }
+    if n == 0 { 0 } else { complement(n - 1) }
 }
 
 pub fn sample_out(x: f32) -> i16

@@ -1,7 +1,7 @@
 // The header. All its fields lie in eleven words of four bytes, of which cases change some.
 ghost use Prim.Native.Nat.{_<_};
 use crate::say;
-use wav::header::read;
+use wav_header::read;
 
 // Of document 01's whole case: RIFF, its size, WAVE, fmt, its size, tag and channels, rate, byte
 // rate, block and bits, data, its size.

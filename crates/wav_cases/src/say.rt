@@ -1,8 +1,8 @@
 // What cases share: numbers on a line.
 use float::bits::to_bits_f32;
 use libc::STDOUT_FILENO;
-use wav::header::Header;
-use wav::header::number;
+use wav_header::Header;
+use wav_header::number;
 
 pub(crate) fn name(text: &[u8]) {
     io::write_all(STDOUT_FILENO, text);

@@ -18,8 +18,7 @@ use libc::STDOUT_FILENO;
 use stage::kind::Stage;
 use wav::frames::frames_in;
 use wav::frames::frames_out;
-use wav::header;
-use wav::header::Header;
+use wav_header::Header;
 
 // After a block: the bytes of data still to come, and whether there is a reason to read them.
 struct Turn {
@@ -85,7 +84,7 @@ fn write_block(refused: u32, samples: &[f32], bytes: &mut [u8], frames: usize, i
         return false;
     }
     if is_cut {
-        say(header::number(Header::Short));
+        say(wav_header::number(Header::Short));
         return false;
     }
     true
@@ -183,13 +182,13 @@ fn render_file(
 pub fn stream(stages: [Stage; 16], count: usize, most: u32, store: &mut [f32]) {
     let mut head = [0; 44];
     let n = io::read_full(STDIN_FILENO, &mut head);
-    let header = header::read(&head[..n], most);
+    let header = wav_header::read(&head[..n], most);
     match header {
         Header::Read { rate, size } => render_file(&head, rate, size, stages, count, store),
-        Header::Names => say(header::number(header)),
-        Header::Format => say(header::number(header)),
-        Header::Rate => say(header::number(header)),
-        Header::Size => say(header::number(header)),
-        Header::Short => say(header::number(header)),
+        Header::Names => say(wav_header::number(header)),
+        Header::Format => say(wav_header::number(header)),
+        Header::Rate => say(wav_header::number(header)),
+        Header::Size => say(wav_header::number(header)),
+        Header::Short => say(wav_header::number(header)),
     }
 }

@@ -3,7 +3,7 @@ use lib.Dec.{lit≤}
 use lib.Ieee.{binary32, ofBits, round}
 use borrow.Author.Needs.{needs}
 use Rattle.float.specs.Literal.{literal}
-use Rattle.float.proofs.Cases.{nan-is}
+use Rattle.float.proofs.Nan.{nan-is}
 use Rattle.decibels.specs.Amplitude.{amplitudes}
 use Rattle.decibels.proofs.Places.{Inside, amplitude-entry, too-low, too-high, sum-fits, cast-fits, bytes-fit, place-small, place-entry}
 use Rattle.decibels.proofs.amplitude.Statement.{statement}

@@ -2,7 +2,7 @@ use mathlib.Core.Path.{sym, _∙_}
 use lib.Dec.{lit≤}
 use lib.Ieee.{nan, binary64}
 use borrow.Author.Needs.{needs}
-use Rattle.float.proofs.Cases.{nan-is}
+use Rattle.float.proofs.Nan.{nan-is}
 use Rattle.decibels.specs.Amplitude.{eqAmplitudes}
 use Rattle.decibels.proofs.Places.{Inside, eq-amplitude-entry, too-low, too-high, sum-fits, cast-fits, bytes-fit, place-small, place-entry}
 use Rattle.decibels.proofs.eq_amplitude.Statement.{statement}

@@ -6,10 +6,10 @@ use Prim.Native.Nat.{ℕ, _<_}
 use native.Mathlib.Omega.{arith}
 use denote.Enum.Declared.{tagOf}
 use types.Run.{OneOf}
-use Rattle.wav.specs.declared.header.Header.{Header}
-use Rattle.wav.specs.declared.header.Header.the-variants.{Read, Names, Format, Rate, Size, Short}
-use Rattle.wav.specs.Header.{headerNumber}
-use Rattle.wav.proofs.header.Header.{the-type}
+use Rattle.wav_header.specs.declared.Header.{Header}
+use Rattle.wav_header.specs.declared.Header.the-variants.{Read, Names, Format, Rate, Size, Short}
+use Rattle.wav_header.specs.Header.{headerNumber}
+use Rattle.wav_header.proofs.Header.{the-type}
 use Rattle.face.specs.declared.file.WavHeader.{WavHeader}
 use Rattle.face.specs.File.{rateOf, dataSizeOf, headerOut}
 use borrow.Author.Needs.{needs}

@@ -1,7 +1,7 @@
-use mathlib.Core.Path.{_≡_, sym, ap, _∙_}
+use mathlib.Core.Path.{sym, _∙_}
 use lib.Ieee.{binary64}
 use borrow.Author.Needs.{needs}
-use Rattle.float.proofs.Cases.{nan-is}
+use Rattle.float.proofs.Nan.{nan-is}
 use Rattle.float.proofs.Patterns.{nan-pattern, no-nan-pattern}
 use Rattle.float.proofs.bits.from_bits_f64.Statement.{statement}
 use Rattle.float.proofs.bits.from_bits_f64.Tie as tie

@@ -1,6 +1,6 @@
-use mathlib.Core.Path.{_≡_, sym, ap}
+use mathlib.Core.Path.{sym, ap}
 use mathlib.Core.Bool.{Bool, cond}
-use lib.Ieee.{Float, binary64, ofBits, round}
+use lib.Ieee.{binary64, ofBits, round}
 use Rattle.float.specs.Literal.{literal}
 use Rattle.float.specs.Clamp.{hundredthOf}
 use Rattle.float.proofs.clamp.at_least_hundredth_f64.Statement.{statement}

@@ -1,4 +1,3 @@
-use borrow.Author.Needs.{needs}
 use lib.Ieee.{ofBits, round, neg}
 use Rattle.float.specs.Literal.{literal}
 use Rattle.float.specs.Clamp.{bothOf}

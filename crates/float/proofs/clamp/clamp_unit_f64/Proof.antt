@@ -1,5 +1,4 @@
-use borrow.Author.Needs.{needs}
-use lib.Ieee.{ofBits, round, neg}
+use lib.Ieee.{ofBits, round}
 use Rattle.float.specs.Literal.{literal}
 use Rattle.float.specs.Clamp.{unitOf}
 use Rattle.float.proofs.Clamps.{clamp-below, clamp-above, clamp-within}

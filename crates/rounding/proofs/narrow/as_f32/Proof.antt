@@ -1,26 +1,23 @@
-use mathlib.Core.Path.{_≡_, refl, sym, ap, _∙_, subst}
+use mathlib.Core.Path.{sym, ap, _∙_, subst}
 use mathlib.Core.Logic.{⊎-elim}
-use Prim.Native.Nat.{ℕ, _+_, _-_, _*_, _/_, _%_, _^_, _≤_, _<_}
+use Prim.Native.Nat.{_^_, _≤_}
 use native.Mathlib.Nat.{zero-add}
 use native.Mathlib.Omega.{arith}
-use mathlib.Core.Bool.{true, false, not}
+use mathlib.Core.Bool.{true, false}
 use borrow.Author.Needs.{needs}
 use borrow.Author.Tests.{le-leb, lt-leb}
 use lib.Dec.{T}
-use lib.Ieee.{binary32, binary64, fits, isNan, ofBits, toBits}
-use lib.Ieee.Compare.{differs-from-itself}
+use denote.Floats.{passes}
+use lib.Ieee.{binary32, binary64, fits, ofBits, toBits}
 use Rattle.rounding.specs.Narrow.{narrowOf}
 use Rattle.float.proofs.Patterns.{no-nan, no-nan-negative}
-use Rattle.float.proofs.Cases.{is, nan-is, not-nan}
+use Rattle.float.proofs.Nan.{nan-is, is-nan, not-nan}
 use Rattle.rounding.proofs.Narrowing.{Bits, of-finite, of-infinite}
 use Rattle.rounding.proofs.narrow.as_f32.Statement.{statement}
 use Rattle.rounding.proofs.narrow.as_f32.Tie as tie
-use Rattle.rounding.proofs.narrow.as_f32.Reads as reads
-use Rattle.rounding.proofs.narrow.as_f32.Lts as lts
-use Rattle.rounding.proofs.narrow.narrowed.Reads as narrowed-reads
 
 held : (c : tie.Start) → T (fits binary64 (c .args .x))
-held c = subst T (sym (c .good .0 .1)) tt
+held c = passes _ (c .good .0 .1)
 
 -- where the ways meet, the bits without the sign
 joined : (c : tie.Joined2) → Bits (c .before .before .args .x) (c .if2 .size) × (c .if2 .size ≤ 0x7f80_0000)
@@ -33,7 +30,7 @@ joined c =
 
 returns : tie.Need-returns
 unfolding narrowOf
-returns c = nan-is binary32 ∙ ap (narrowOf binary32) (sym (differs-from-itself (c .before .args .x) (is _ (c .if1 .taken))))
+returns c = nan-is binary32 ∙ ap (narrowOf binary32) (sym (is-nan (c .before .args .x) (c .if1 .taken)))
 
 float-to-bits-b : tie.Need-float-to-bits-b
 float-to-bits-b c = not-nan (c .before .args .x) (c .if1 .left)

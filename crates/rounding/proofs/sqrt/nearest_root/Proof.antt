@@ -1,12 +1,9 @@
-use Prim.Native.Nat.{ℕ, _+_, _*_, _/_, _^_}
+use Prim.Native.Nat.{_*_, _/_, _^_}
 use native.Mathlib.Omega.{arith}
 use borrow.Author.Needs.{needs}
 use Rattle.rounding.proofs.WholeRoot.{nearest-up, nearest-down}
 use Rattle.rounding.proofs.sqrt.nearest_root.Statement.{statement}
 use Rattle.rounding.proofs.sqrt.nearest_root.Tie as tie
-use Rattle.rounding.proofs.sqrt.nearest_root.Reads as reads
-use Rattle.rounding.proofs.sqrt.nearest_root.Lts as lts
-use Rattle.rounding.proofs.sqrt.whole_root.Reads as whole-root-reads
 
 whole-root-requires : tie.Need-whole-root-requires
 whole-root-requires c κs = search needs

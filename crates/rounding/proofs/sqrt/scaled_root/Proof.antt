@@ -1,15 +1,12 @@
-use mathlib.Core.Path.{_≡_, refl, sym, ap}
+use mathlib.Core.Path.{_≡_}
 use mathlib.Core.Logic.{⊎-elim}
-use Prim.Native.Nat.{ℕ, suc, _+_, _-_, _*_, _/_, _%_, _^_, _≤_, _<_}
+use Prim.Native.Nat.{suc, _+_, _-_, _*_, _/_, _≤_}
 use native.Mathlib.Omega.{arith}
 use borrow.Author.Needs.{needs}
 use lib.Count.{leadingZeros, leading-le}
-use Rattle.rounding.proofs.Aligned.{lead, scaled}
+use Rattle.rounding.proofs.Aligned.{lead, aligned-root}
 use Rattle.rounding.proofs.sqrt.scaled_root.Statement.{statement}
 use Rattle.rounding.proofs.sqrt.scaled_root.Tie as tie
-use Rattle.rounding.proofs.sqrt.scaled_root.Reads as reads
-use Rattle.rounding.proofs.sqrt.scaled_root.Lts as lts
-use Rattle.rounding.proofs.sqrt.nearest_root.Reads as nearest-root-reads
 
 cast-zeros : tie.Need-cast-zeros
 cast-zeros c = omega (arith, leading-le 64 (c .args .q))
@@ -51,7 +48,7 @@ returns c =
     let f = c .nearest-root in
     let s = c .before .before .if1 .shift in
     let m : (s + (a .j + 64 - z + 1) / 2 * 2 ≡ a .j + 64) × (s ≤ z) × (z ≤ s + 1) = ⊎-elim (λ w. (omega (arith, w .1), omega (arith, w .1), omega (arith, w .1))) (λ w. (omega (arith, w .1), omega (arith, w .1), omega (arith, w .1))) (c .before .before .if1 .came) in
-    scaled (a .q) (a .j) (a .p) s (f .result) pre (m .0) (m .1) (m .2) (f .ensures .0) (f .ensures .1)
+    aligned-root (a .q) (a .j) (a .p) s (f .result) pre (m .0) (m .1) (m .2) (f .ensures .0) (f .ensures .1)
 
 pub scaled-root-spec : {M : Type 1} → statement M
 scaled-root-spec =

@@ -1,20 +1,17 @@
-use mathlib.Core.Path.{_≡_, sym, ap, _∙_, subst}
-use native.Mathlib.Omega.{arith}
+use mathlib.Core.Path.{ap, _∙_}
 use borrow.Author.Needs.{needs}
 use lib.Dec.{T}
-use lib.Ieee.{binary32, fits, ofBits, toBits}
+use denote.Floats.{passes}
+use lib.Ieee.{binary32, fits}
 use lib.Ieee.Bits.{ofBits-toBits}
 use Rattle.rounding.specs.Root.{sqrtOf}
 use Rattle.float.proofs.Patterns.{no-nan}
 use Rattle.rounding.proofs.Roots.{above-not-nan, above-bits, root-of-inf, root-of-zero, root-of-negative}
 use Rattle.rounding.proofs.sqrt.sqrt_f32.Statement.{statement}
 use Rattle.rounding.proofs.sqrt.sqrt_f32.Tie as tie
-use Rattle.rounding.proofs.sqrt.sqrt_f32.Reads as reads
-use Rattle.rounding.proofs.sqrt.sqrt_f32.Lts as lts
-use Rattle.rounding.proofs.sqrt.root_bits_f32.Reads as root-bits-f32-reads
 
 held : (c : tie.Start) → T (fits binary32 (c .args .x))
-held c = subst T (sym (c .good .0 .1)) tt
+held c = passes _ (c .good .0 .1)
 
 float-to-bits-b : tie.Need-float-to-bits-b
 float-to-bits-b c = above-not-nan binary32 (c .before .args .x) (c .if1 .taken)

@@ -1,20 +1,16 @@
-use mathlib.Core.Path.{_≡_, sym, ap, _∙_, subst}
-use native.Mathlib.Omega.{arith}
-use borrow.Author.Needs.{needs}
+use mathlib.Core.Path.{ap, _∙_}
 use lib.Dec.{T}
-use lib.Ieee.{binary64, fits, ofBits, toBits}
+use denote.Floats.{passes}
+use lib.Ieee.{binary64, fits}
 use lib.Ieee.Bits.{ofBits-toBits}
 use Rattle.rounding.specs.Root.{sqrtOf}
 use Rattle.float.proofs.Patterns.{no-nan}
 use Rattle.rounding.proofs.Roots.{above-not-nan, above-bits, root-of-inf, root-of-zero, root-of-negative}
 use Rattle.rounding.proofs.sqrt.sqrt_f64.Statement.{statement}
 use Rattle.rounding.proofs.sqrt.sqrt_f64.Tie as tie
-use Rattle.rounding.proofs.sqrt.sqrt_f64.Reads as reads
-use Rattle.rounding.proofs.sqrt.sqrt_f64.Lts as lts
-use Rattle.rounding.proofs.sqrt.root_bits_f64.Reads as root-bits-f64-reads
 
 held : (c : tie.Start) → T (fits binary64 (c .args .x))
-held c = subst T (sym (c .good .0 .1)) tt
+held c = passes _ (c .good .0 .1)
 
 float-to-bits-b : tie.Need-float-to-bits-b
 float-to-bits-b c = above-not-nan binary64 (c .before .args .x) (c .if1 .taken)

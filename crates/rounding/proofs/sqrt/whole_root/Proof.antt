@@ -1,12 +1,10 @@
-use mathlib.Core.Path.{_≡_, subst, sym}
-use Prim.Native.Nat.{ℕ, _≤_, _<_, _-_, _+_, _*_, _/_, _%_, _^_}
+use mathlib.Core.Path.{_≡_, subst}
+use Prim.Native.Nat.{ℕ, _≤_, _<_, _-_, _+_, _*_, _%_, _^_}
 use mathlib.Core.Logic.{⊎-elim}
 use native.Mathlib.Omega.{arith}
-use Rattle.rounding.proofs.RootDigit.{Turn, first, bound, one, nought, last, moved}
+use Rattle.rounding.proofs.RootDigit.{Turn, no-turn, bound, digit-one, digit-nought, all-turns, moved}
 use Rattle.rounding.proofs.sqrt.whole_root.Statement.{statement}
 use Rattle.rounding.proofs.sqrt.whole_root.Tie as tie
-use Rattle.rounding.proofs.sqrt.whole_root.Reads as reads
-use Rattle.rounding.proofs.sqrt.whole_root.Lts as lts
 
 abbrev Inv-loop : tie.InvT-loop
 Inv-loop w n word₀ root₀ rest₀ i₀ word root rest i = (i ≤ n) × (n ≤ 53) × Turn w i root rest word
@@ -19,7 +17,7 @@ short : (c : tie.In-loop Inv-loop μ-loop) → c .before .loop .root < 2 ^ 53
 short c = let l = c .before .loop in bound (l .i) (c .before .before .args .n) (l .root) (l .inv .0) (l .inv .1) (l .inv .2 .2)
 
 loop-holds : tie.Need-loop-holds Inv-loop μ-loop
-loop-holds c = (omega arith, c .pre, first (c .args .w) (c .fits .w .fits))
+loop-holds c = (omega arith, c .pre, no-turn (c .args .w) (c .fits .w .fits))
 
 mul-next : tie.Need-mul-next Inv-loop μ-loop
 mul-next c = omega (arith, short c)
@@ -58,8 +56,8 @@ loop-again c =
       omega arith,
       l .inv .1,
       ⊎-elim
-          (λ a. moved w (l .i + 1) (l .word % 2 ^ 62 * 4) (a .1) (a .2) (one w (l .i) (l .root) (l .rest) (l .word) (l .inv .2) (a .0 .taken)))
-          (λ a. moved w (l .i + 1) (l .word % 2 ^ 62 * 4) (a .1) (a .2) (nought w (l .i) (l .root) (l .rest) (l .word) (l .inv .2) (a .0 .left)))
+          (λ a. moved w (l .i + 1) (l .word % 2 ^ 62 * 4) (a .1) (a .2) (digit-one w (l .i) (l .root) (l .rest) (l .word) (l .inv .2) (a .0 .taken)))
+          (λ a. moved w (l .i + 1) (l .word % 2 ^ 62 * 4) (a .1) (a .2) (digit-nought w (l .i) (l .root) (l .rest) (l .word) (l .inv .2) (a .0 .left)))
           (c .if1 .came),
     )
 
@@ -69,7 +67,7 @@ returns c =
     let a = c .before .before .args in
     let e : l .i ≡ a .n = omega arith in
     let t : Turn (a .w) (a .n) (l .root) (l .rest) (l .word) = subst (λ (x : ℕ). Turn (a .w) x (l .root) (l .rest) (l .word)) e (l .inv .2) in
-    record { whole = last (a .w) (a .n) (l .root) (l .rest) (l .word) t; small = t .1; short = t .2 }
+    record { whole = all-turns (a .w) (a .n) (l .root) (l .rest) (l .word) t; small = t .1; short = t .2 }
 
 pub whole-root-spec : {M : Type 1} → statement M
 whole-root-spec =

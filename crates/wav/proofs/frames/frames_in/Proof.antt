@@ -17,14 +17,14 @@ Inv-loop bytes samples₀ frames n i₀ samples i = (i ≤ n) × (2 * n ≤ leng
 abbrev μ-loop : tie.MeasureT-loop
 μ-loop bytes samples₀ frames n i₀ samples i = n - i
 
-lesser-requires : tie.Need-lesser-requires Inv-loop μ-loop
-lesser-requires c κs = search needs
+whole-frames-requires : tie.Need-whole-frames-requires Inv-loop μ-loop
+whole-frames-requires c κs = search needs
 
 mul-n : tie.Need-mul-n Inv-loop μ-loop
-mul-n c = omega (arith, c .lesser .ensures)
+mul-n c = omega (arith, c .whole-frames .ensures)
 
 loop-holds : tie.Need-loop-holds Inv-loop μ-loop
-loop-holds c = (omega arith, omega (arith, c .lesser .ensures), omega (arith, c .lesser .ensures), samples-none (now (c .before .before .before .args .bytes)) (now (c .before .before .before .args .samples)), refl)
+loop-holds c = (omega arith, omega (arith, c .whole-frames .ensures), omega (arith, c .whole-frames .ensures), samples-none (now (c .before .before .before .args .bytes)) (now (c .before .before .before .args .samples)), refl)
 
 sample-at-requires : tie.Need-sample-at-requires Inv-loop μ-loop
 sample-at-requires c κs = omega arith
@@ -57,8 +57,8 @@ unfolding wholeFrames samplesIn
 returns c =
     let b = now (c .before .before .before .before .before .args .bytes) in
     let xs = now (c .before .before .before .before .before .args .samples) in
-    let e : c .before .loop .i ≡ 2 * wholeFrames b xs = omega (arith, c .before .before .lesser .ensures) in
-    (c .before .before .lesser .ensures, c .before .loop .inv .3 ∙ ap (λ n. samplesOf b n ++ drop n xs) e)
+    let e : c .before .loop .i ≡ 2 * wholeFrames b xs = omega (arith, c .before .before .whole-frames .ensures) in
+    (c .before .before .whole-frames .ensures, c .before .loop .inv .3 ∙ ap (λ n. samplesOf b n ++ drop n xs) e)
 
 pub frames-in-spec : {M : Type 1} → statement M
 frames-in-spec =
@@ -66,7 +66,7 @@ frames-in-spec =
     (tie.spec
     Inv-loop
     μ-loop
-    lesser-requires
+    whole-frames-requires
     mul-n
     loop-holds
     sample-at-requires

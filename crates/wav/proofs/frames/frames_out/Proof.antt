@@ -18,14 +18,14 @@ Inv-loop samples bytes₀ frames n i₀ bytes i = (i ≤ n) × (2 * n ≤ length
 abbrev μ-loop : tie.MeasureT-loop
 μ-loop samples bytes₀ frames n i₀ bytes i = n - i
 
-lesser-requires : tie.Need-lesser-requires Inv-loop μ-loop
-lesser-requires c κs = search needs
+whole-frames-requires : tie.Need-whole-frames-requires Inv-loop μ-loop
+whole-frames-requires c κs = search needs
 
 mul-n : tie.Need-mul-n Inv-loop μ-loop
-mul-n c = omega (arith, c .lesser .ensures)
+mul-n c = omega (arith, c .whole-frames .ensures)
 
 loop-holds : tie.Need-loop-holds Inv-loop μ-loop
-loop-holds c = (omega arith, omega (arith, c .lesser .ensures), omega (arith, c .lesser .ensures), bytes-none (now (c .before .before .before .args .samples)) (now (c .before .before .before .args .bytes)), refl)
+loop-holds c = (omega arith, omega (arith, c .whole-frames .ensures), omega (arith, c .whole-frames .ensures), bytes-none (now (c .before .before .before .args .samples)) (now (c .before .before .before .args .bytes)), refl)
 
 mul-put-sample : tie.Need-mul-put-sample Inv-loop μ-loop
 mul-put-sample c = omega arith
@@ -59,8 +59,8 @@ unfolding wholeFrames bytesOut
 returns c =
     let xs = now (c .before .before .before .before .before .args .samples) in
     let ys = now (c .before .before .before .before .before .args .bytes) in
-    let e : c .before .loop .i ≡ 2 * wholeFrames ys xs = omega (arith, c .before .before .lesser .ensures) in
-    (c .before .before .lesser .ensures, c .before .loop .inv .3 ∙ ap (λ n. bytesOf xs n ++ drop (2 * n) ys) e)
+    let e : c .before .loop .i ≡ 2 * wholeFrames ys xs = omega (arith, c .before .before .whole-frames .ensures) in
+    (c .before .before .whole-frames .ensures, c .before .loop .inv .3 ∙ ap (λ n. bytesOf xs n ++ drop (2 * n) ys) e)
 
 pub frames-out-spec : {M : Type 1} → statement M
 frames-out-spec =
@@ -68,7 +68,7 @@ frames-out-spec =
     (tie.spec
     Inv-loop
     μ-loop
-    lesser-requires
+    whole-frames-requires
     mul-n
     loop-holds
     mul-put-sample

@@ -1,7 +1,7 @@
 -- `frames::put_sample` meets its contract. Assumes nothing.
 use mathlib.Core.Path.{ap, _∙_}
 use borrow.Author.Needs.{needs}
-use Rattle.wav.specs.Bytes.{codeOf}
+use Rattle.wav.specs.Pcm.{codeOf}
 use Rattle.wav.specs.Frames.{lowOf, highOf}
 use Rattle.wav.proofs.Signed as sg
 use Rattle.wav.proofs.frames.put_sample.Statement.{statement}

@@ -2,7 +2,7 @@
 use mathlib.Core.Path.{ap, _∙_}
 use borrow.Author.Needs.{needs}
 use Rattle.wav.specs.Frames.{sampleAt}
-use Rattle.wav.specs.Bytes.{signedOf}
+use Rattle.wav.specs.Pcm.{signedOf}
 use Rattle.wav.specs.Sample.{sampleIn}
 use Rattle.wav.proofs.Signed as sg
 use Rattle.wav.proofs.frames.sample_at.Statement.{statement}

@@ -7,18 +7,18 @@ use Rattle.wav.proofs.Signed as sg
 use Rattle.wav.proofs.sample.below_zero.Statement.{statement}
 use Rattle.wav.proofs.sample.below_zero.Tie as tie
 
-sub-negative : tie.Need-sub-negative
-sub-negative c = search needs
+sub-complement : tie.Need-sub-complement
+sub-complement c = search needs
 
-negative-requires : tie.Need-negative-requires
-negative-requires c κs = search needs
+complement-requires : tie.Need-complement-requires
+complement-requires c κs = search needs
 
 returns : tie.Need-returns
 unfolding heldOf
 returns c = rw (c .if1 .taken)
 
 returns-2 : tie.Need-returns-2
-returns-2 c = sg.came (c .negative .ensures) (omega arith) ∙ sg.below-is (c .before .before .args .n) (c .before .if1 .left)
+returns-2 c = sg.came (c .complement .ensures) (omega arith) ∙ sg.below-is (c .before .before .args .n) (c .before .if1 .left)
 
 pub below-zero-spec : {M : Type 1} → statement M
-below-zero-spec = tie.close (tie.spec sub-negative negative-requires returns returns-2)
+below-zero-spec = tie.close (tie.spec sub-complement complement-requires returns returns-2)

@@ -9,7 +9,7 @@ int-to-float-result : tie.Need-int-to-float-result
 int-to-float-result c = search needs
 
 returns : tie.Need-returns
-returns c = rw (sg.held (c .before .args .s) (c .before .fits .s .sfits)) (in-is (c .before .args .s) (c .before .fits .s .sfits))
+returns c = rw (sg.read-back (c .before .args .s) (c .before .fits .s .sfits)) (in-is (c .before .args .s) (c .before .fits .s .sfits))
 
 pub sample-in-spec : {M : Type 1} → statement M
 sample-in-spec = tie.close (tie.spec int-to-float-result returns)

@@ -1,10 +1,9 @@
 -- `sample::sample_out` meets its contract: the float is the one with these bits. Assumes nothing.
 use mathlib.Core.Bool.{true, false}
-use mathlib.Core.Path.{sym, subst}
 use Prim.Native.Nat.{_^_}
 use borrow.Author.Tests.{le-leb, lt-leb}
 use borrow.Author.Needs.{needs}
-use lib.Dec.{T}
+use denote.Floats.{passes}
 use Rattle.wav.proofs.Steps.{bits-out}
 use Rattle.wav.proofs.sample.sample_out.Statement.{statement}
 use Rattle.wav.proofs.sample.sample_out.Tie as tie
@@ -27,12 +26,12 @@ below-zero-requires c κs = search needs
 returns : tie.Need-returns
 returns c =
     let n = c .before .before .steps in
-    bits-out (c .before .before .before .before .args .x) (c .before .before .before .to-bits-f32 .result) (n .result) _ false (subst T (sym (c .before .before .before .before .good .0 .1)) tt) (c .before .before .before .to-bits-f32 .ensures) (lt-leb (2 ^ 31) (c .before .before .before .to-bits-f32 .result) (c .before .if1 .taken)) (n .ensures .0) (n .ensures .1) (c .above-zero .ensures)
+    bits-out (c .before .before .before .before .args .x) (c .before .before .before .to-bits-f32 .result) (n .result) _ false (passes _ (c .before .before .before .before .good .0 .1)) (c .before .before .before .to-bits-f32 .ensures) (lt-leb (2 ^ 31) (c .before .before .before .to-bits-f32 .result) (c .before .if1 .taken)) (n .ensures .0) (n .ensures .1) (c .above-zero .ensures)
 
 returns-2 : tie.Need-returns-2
 returns-2 c =
     let n = c .before .before .steps in
-    bits-out (c .before .before .before .before .args .x) (c .before .before .before .to-bits-f32 .result) (n .result) _ true (subst T (sym (c .before .before .before .before .good .0 .1)) tt) (c .before .before .before .to-bits-f32 .ensures) (le-leb (2 ^ 31) (c .before .before .before .to-bits-f32 .result) (c .before .if1 .left)) (n .ensures .0) (n .ensures .1) (c .below-zero .ensures)
+    bits-out (c .before .before .before .before .args .x) (c .before .before .before .to-bits-f32 .result) (n .result) _ true (passes _ (c .before .before .before .before .good .0 .1)) (c .before .before .before .to-bits-f32 .ensures) (le-leb (2 ^ 31) (c .before .before .before .to-bits-f32 .result) (c .before .if1 .left)) (n .ensures .0) (n .ensures .1) (c .below-zero .ensures)
 
 pub sample-out-spec : {M : Type 1} → statement M
 sample-out-spec =

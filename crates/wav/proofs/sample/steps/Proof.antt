@@ -1,13 +1,11 @@
 -- `sample::steps` meets its contract: a law of proofs/Steps.antt for each return. Assumes nothing.
-use mathlib.Core.Path.{sym, ap, _∙_, subst}
-use Prim.Native.Nat.{_+_, _-_, _^_, _<_, zero-le}
+use mathlib.Core.Path.{_∙_}
+use Prim.Native.Nat.{_+_, _-_, _^_, zero-le}
 use native.Mathlib.Omega.{arith}
 use borrow.Author.Needs.{needs}
-use lib.Ieee.Nearest.{closest}
-use lib.Pow.{pow-pos, pow-lt}
 use lib.Dec.{lit≤}
-use Rattle.rounding.proofs.Narrowing.{one-shl}
-use Rattle.wav.proofs.Steps.{nan-steps, inf-steps, large-steps, small-steps, middle-steps, doubled}
+use Rattle.rounding.proofs.Quotients.{quotient-shl}
+use Rattle.wav.proofs.Steps.{nan-steps, inf-steps, large-steps, small-steps, middle-steps}
 use Rattle.wav.proofs.sample.steps.Statement.{statement}
 use Rattle.wav.proofs.sample.steps.Tie as tie
 
@@ -23,26 +21,23 @@ returns-3 c = (large-steps (c .before .before .args .field) (c .before .before .
 returns-4 : tie.Need-returns-4
 returns-4 c = (small-steps (c .before .before .before .args .field) (c .before .before .before .args .digits) (c .if4 .taken) (omega arith), zero-le)
 
-add-nearest : tie.Need-add-nearest
-add-nearest c = search needs
+add-nearest-quotient : tie.Need-add-nearest-quotient
+add-nearest-quotient c = search needs
 
-sub-nearest : tie.Need-sub-nearest
-sub-nearest c = search needs
+sub-nearest-quotient : tie.Need-sub-nearest-quotient
+sub-nearest-quotient c = search needs
 
-shl-nearest : tie.Need-shl-nearest
-shl-nearest c = search needs
+shl-nearest-quotient : tie.Need-shl-nearest-quotient
+shl-nearest-quotient c = search needs
 
-nearest-requires : tie.Need-nearest-requires
-nearest-requires c κs =
-    let x = c .before .before .before .args .field in
-    let e = one-shl (134 - x) (omega arith) in
-    (omega arith, (subst (λ z. 0 < z) (sym e) (pow-pos (134 - x)), subst (λ z. z < 2 ^ 24) (sym e) (pow-lt {i = 134 - x} {j = 24} (omega arith))))
+nearest-quotient-requires : tie.Need-nearest-quotient-requires
+nearest-quotient-requires c κs = search needs
 
 returns-5 : tie.Need-returns-5
 returns-5 c =
     let x = c .before .before .before .before .args .field in
     let t = c .before .before .before .before .args .digits in
-    middle-steps x t (c .nearest .result) (omega arith) (omega arith) (omega arith) (c .nearest .ensures ∙ ap (closest (2 ^ 23 + t)) (doubled x (omega arith) (omega arith)))
+    middle-steps x t (c .nearest-quotient .result) (omega arith) (omega arith) (omega arith) (c .nearest-quotient .ensures ∙ quotient-shl (2 ^ 23 + t) (135 - x) (omega arith))
 
 pub steps-spec : {M : Type 1} → statement M
 steps-spec =
@@ -52,8 +47,8 @@ steps-spec =
     returns-2
     returns-3
     returns-4
-    add-nearest
-    sub-nearest
-    shl-nearest
-    nearest-requires
+    add-nearest-quotient
+    sub-nearest-quotient
+    shl-nearest-quotient
+    nearest-quotient-requires
     returns-5)

@@ -1,0 +1,10 @@
+-- What "the nearest whole number to a fraction, ties to even" means. That the library's `closest a b` is that number for a / b is proved by `closest-whole` of proofs/Whole.antt. Definitions only.
+use Prim.Native.Nat.{ℕ, _+_, _*_, _%_, _≤_}
+use mathlib.Core.Path.{_≡_}
+
+-- the whole number r is at most a half away from a / b, and is even where it is a half away
+pub record NearestWhole (a b r : ℕ) : Type 0 where
+  pub below : r * b * 2 ≤ a * 2 + b
+  pub above : a * 2 ≤ r * b * 2 + b
+  pub even-below : r * b * 2 ≡ a * 2 + b → r % 2 ≡ 0
+  pub even-above : a * 2 ≡ r * b * 2 + b → r % 2 ≡ 0

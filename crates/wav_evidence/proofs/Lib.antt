@@ -1,0 +1,3 @@
+pub mod Exact
+pub mod Back
+pub mod Evidence

@@ -1,0 +1,119 @@
+// The 44-byte header of a WAV file: what it says, or document 01's refusal of it. Nothing here has a
+// `requires`.
+ghost use mathlib.Core.Path.{_≡_};
+ghost use Rattle.wav_header.specs.Header.{headerNumber, namesRight, formatRight, rateRight, headerOf};
+use wav_bytes::four_at;
+use wav_bytes::two_at;
+
+// Chunk names as numbers, the first letter lowest.
+const RIFF: u32 = 0x4646_4952;
+
+const WAVE: u32 = 0x4556_4157;
+
+const FMT: u32 = 0x2074_6d66;
+
+const DATA: u32 = 0x6174_6164;
+
+pub enum Header {
+    // The rate, and the bytes of data to come.
+    Read { rate: u32, size: u32 },
+    // 21: wrong chunk names, fmt size not 16, or RIFF size not data size + 36
+    Names,
+    // 22: not tag 1, two channels, 16 bits, block 4, byte rate 4R
+    Format,
+    // 23: rate out of range
+    Rate,
+    // 24: data size not a multiple of 4
+    Size,
+    // 25: fewer than 44 bytes
+    Short,
+}
+
+// Document 01's number of a refusal, and 0 for a header that is read.
+pub fn number(header: Header) -> u32
+    ensures { λ r. ⌜ r ≡ headerNumber header ⌝ }
+{
+    match header {
+        Header::Read { rate: _, size: _ } => 0,
+        Header::Names => 21,
+        Header::Format => 22,
+        Header::Rate => 23,
+        Header::Size => 24,
+        Header::Short => 25,
+    }
+}
+
+fn names_right(bytes: &[u8]) -> bool
+    ensures { λ r. ⌜ r ≡ namesRight (now (bytes .entry)) ⌝ }
+{
+    if four_at(bytes, 0) != RIFF {
+        return false;
+    }
+    if four_at(bytes, 8) != WAVE {
+        return false;
+    }
+    if four_at(bytes, 12) != FMT {
+        return false;
+    }
+    if four_at(bytes, 36) != DATA {
+        return false;
+    }
+    if four_at(bytes, 16) != 16 {
+        return false;
+    }
+    four_at(bytes, 4) as u64 == four_at(bytes, 40) as u64 + 36
+}
+
+fn format_right(bytes: &[u8]) -> bool
+    ensures { λ r. ⌜ r ≡ formatRight (now (bytes .entry)) ⌝ }
+{
+    if two_at(bytes, 20) != 1 {
+        return false;
+    }
+    if two_at(bytes, 22) != 2 {
+        return false;
+    }
+    if two_at(bytes, 34) != 16 {
+        return false;
+    }
+    if two_at(bytes, 32) != 4 {
+        return false;
+    }
+    four_at(bytes, 28) as u64 == 4 * (four_at(bytes, 24) as u64)
+}
+
+fn rate_right(most: u32, rate: u32) -> bool
+    ensures { λ r. ⌜ r ≡ rateRight most rate ⌝ }
+{
+    if rate < 8000 {
+        return false;
+    }
+    if rate > 192000 {
+        return false;
+    }
+    rate <= most
+}
+
+// What the first 44 bytes say to a program that takes rates up to `most`.
+pub fn read(bytes: &[u8], most: u32) -> Header
+    ensures { λ r. ⌜ r ≡ headerOf (now (bytes .entry)) most ⌝ }
+{
+    if bytes.len() < 44 {
+        return Header::Short;
+    }
+    if !names_right(bytes) {
+        return Header::Names;
+    }
+    if !format_right(bytes) {
+        return Header::Format;
+    }
+    let rate = four_at(bytes, 24);
+    if !rate_right(most, rate) {
+        return Header::Rate;
+    }
+    let size = four_at(bytes, 40);
+    if size % 4 != 0 {
+        return Header::Size;
+    }
+    Header::Read { rate, size }
+}
