@@ -1,4 +1,4 @@
--- `combs` meets its contract: the combs from index k on are the kth, on the front of each stretch, and those from k + 1 on, on the rest; after the last come the all-passes. The measure is 8 - k.
+-- `combs` meets its contract: the combs from line k up to `end` are that of line k, on the front of each stretch, and those from k + 1 on, on the rest; after the last come the all-passes. The measure is end - k.
 use mathlib.Core.Path.{sym, _∙_}
 use mathlib.Core.List.{_++_}
 use Prim.Native.Nat.{ℕ, _+_, _-_, _≤_, _<_}
@@ -7,23 +7,24 @@ use borrow.Author.Needs.{needs}
 use borrow.Fn.Kinds.{In}
 use borrow.Fn.PlainCycle.{Measures, is, falls, and}
 use denote.Ref.{now}
-use lib.ListN.{length, set, drop, length-set}
-use lib.Seq.{length-take-le}
-use Rattle.reverb.specs.Tuning.{combTunings, allPassTunings, tuningFloats}
-use Rattle.line.proofs.Lent.{lent-length}
-use Rattle.reverb.proofs.InTurn.{combs-none, combs-more}
-use Rattle.reverb.proofs.Tunings.{comb-floats}
+use lib.ListN.{length, set, take, drop, length-set}
+use lib.Seq.{slice, length-take-le}
+use Rattle.tuning.specs.Tuning.{reverbLines, total}
+use Rattle.tuning.proofs.Tunings.{lines-length}
+use Rattle.line.proofs.Lent.{lent-length, first-lent, first-home}
+use Rattle.reverb.specs.Reverb.{heard, combOf, passOf, linesInTurn}
+use Rattle.reverb.proofs.InTurn.{lines-floats, lines-none, lines-more, comb-front}
 use Rattle.reverb.proofs.combs.Reads as combs
 use Rattle.reverb.proofs.combs.Kinds as combs-kinds
 use Rattle.reverb.proofs.+combs.Lts-combs as combs-lts
 use Rattle.line.proofs.comb.process.Reads as process-reads
 use Rattle.reverb.proofs.passes.Reads as passes-reads
-use Rattle.reverb.proofs.tuning.line_of.Reads as line-of-reads
+use Rattle.tuning.proofs.reverb_line.Reads as reverb-line-reads
 use Rattle.reverb.proofs.+combs.{statement}
 use Rattle.reverb.proofs.+combs.Tie.{close}
 
 abbrev μ-combs : Measures 3 combs-kinds.ps ℕ
-μ-combs κs a = 8 - a .0
+μ-combs κs a = a .1 .0 - a .0
 
 abbrev combs-at : ℕ → In 3 combs-kinds.ps
 combs-at t = and 3 combs-kinds.ps (is 3 combs-kinds.ps μ-combs t) combs.Pre
@@ -32,17 +33,21 @@ abbrev combs-below : ℕ → In 3 combs-kinds.ps
 combs-below t = and 3 combs-kinds.ps (falls 3 combs-kinds.ps _<_ μ-combs t) combs.Pre
 
 abbrev combs-calls : ℕ → combs-lts.Claims
-combs-calls t = (passes-reads.Asked, passes-reads.Learnt, line-of-reads.Asked, line-of-reads.Learnt, process-reads.Asked, process-reads.Learnt, combs-below t, combs.Post)
+combs-calls t = (passes-reads.Asked, passes-reads.Learnt, reverb-line-reads.Asked, reverb-line-reads.Learnt, process-reads.Asked, process-reads.Learnt, combs-below t, combs.Post)
 
 -- the kth line, and those after it, have room in the store
-room : (t : ℕ) (c : combs-lts.After-line-of (combs-calls t) (combs-at t) combs.Post)
+room : (t : ℕ) (c : combs-lts.After-reverb-line (combs-calls t) (combs-at t) combs.Post)
     → let a = c .before .before .before .before .before .args in
-    c .line-of .result + tuningFloats (a .spread) (a .rate) (drop (a .k + 1) combTunings) + tuningFloats (a .spread) (a .rate) allPassTunings ≤ length (now (a .store))
-room t c = omega (arith, comb-floats _ _ _ (c .before .before .before .before .before .args .k) (omega arith) (c .line-of .ensures .0))
+    c .reverb-line .result + total (slice (a .k + 1) (a .end) (reverbLines (a .rate))) + total (slice (a .end) (a .end + 4) (reverbLines (a .rate))) ≤ length (now (a .store))
+room t c =
+    let a = c .before .before .before .before .before .args in
+    omega (arith, c .reverb-line .ensures, lines-floats (reverbLines (a .rate)) (a .k) (a .end) (omega arith) (omega (arith, lines-length (a .rate))))
 
 combs-met : {M : Type 1} (t : ℕ) → combs-lts.Closed (combs-calls t) (combs-at t) combs.Post M
 combs-met t =
     combs-lts.spec (combs-calls t) (combs-at t) combs.Post
+    -- add-passes
+    (λ c. search needs)
     -- passes-requires
     (λ c κs. (omega arith, omega arith, omega arith, omega arith))
     -- same-length
@@ -50,8 +55,8 @@ combs-met t =
     -- same-length-2
     (λ c. search needs)
     -- returns
-    (λ c. combs-none _ _ _ _ _ _ _ _ _ _ (c .before .before .before .before .before .before .before .if1 .taken) (c .before .before .before .before .passes .ensures (now (c .before .before .before .before .before .before .before .before .before .before .before .args .floats))))
-    -- line-of-requires
+    (λ c. lines-none _ _ _ _ _ _ _ _ _ (c .before .before .before .before .before .before .before .if1 .taken) (c .before .before .before .before .passes .ensures (now (c .before .before .before .before .before .before .before .before .before .before .before .args .floats))))
+    -- reverb-line-requires
     (λ c κs. search needs)
     -- slice-relend-prefix-process
     (λ c. omega (arith, room t c))
@@ -70,7 +75,7 @@ combs-met t =
     -- add-combs
     (λ c. search needs)
     -- mul-combs
-    (λ c. search needs)
+    (λ c. omega (arith, room t (c .before .before .before .before .before .before .before), c .before .before .store2 .given .1))
     -- sub-combs
     (λ c. omega (arith, room t (c .before .before .before .before .before .before .before), c .before .before .store2 .given .1))
     -- part-combs-start
@@ -92,7 +97,7 @@ combs-met t =
     -- combs-requires
     (λ c κs.
     let a = c .before .before .before .before .before .before .before .before .before .before .before .before .before .before .before .args in
-    let n = c .before .before .before .before .before .before .before .before .before .before .line-of .result in
+    let n = c .before .before .before .before .before .before .before .before .before .before .reverb-line .result in
     let p = c .before .before .before .before .before .before .process in (
       omega arith,
       (
@@ -112,14 +117,17 @@ combs-met t =
     -- returns-2
     (λ c.
     let a = c .before .before .before .before .before .before .before .before .before .before .before .before .before .before .before .before .before .before .before .before .before .before .args in
-    combs-more _ _ _ _ _ _ (a .k) _ _ _ _ _ (now (a .positions)) (now (a .floats)) _ _ _ _
-    (omega (arith, c .before .before .before .before .before .before .before .before .before .before .before .before .before .before .before .before .before .before .before .before .before .before .pre .1 .0, c .before .before .before .before .before .before .before .before .before .before .before .before .before .before .before .before .before .before .if1 .left))
-    (c .before .before .before .before .before .before .before .before .before .before .before .before .before .before .before .before .before .line-of .ensures .0)
-    (c .before .before .before .before .before .before .before .before .before .before .before .before .store2 .given .0 ∙ length-take-le _ _ (omega (arith, room t (c .before .before .before .before .before .before .before .before .before .before .before .before .before .before .before .before .before))))
-    (omega (arith, c .before .before .before .before .before .before .before .before .before .before .before .before .before .before .before .before .before .before .before .before .before .before .pre .1 .0, c .before .before .before .before .before .before .before .before .before .before .before .before .before .before .before .before .before .before .before .before .before .before .pre .1 .3, c .before .before .before .before .before .before .before .before .before .before .before .before .before .before .before .before .before .before .if1 .left))
-    (omega (arith, c .before .before .before .before .before .before .before .before .before .before .before .before .before .before .before .before .before .before .before .before .before .before .pre .1 .0, c .before .before .before .before .before .before .before .before .before .before .before .before .before .before .before .before .before .before .before .before .before .before .pre .1 .4, c .before .before .before .before .before .before .before .before .before .before .before .before .before .before .before .before .before .before .if1 .left))
-    (c .before .before .before .before .before .before .before .before .before .before .before .before .before .process .ensures)
-    (c .before .before .before .before .before .before .combs .ensures))
+    let r = c .before .before .before .before .before .before .before .before .before .before .before .before .before .before .before .before .before in
+    let p = c .before .before .before .before .before .before .before .before .before .before .before .before .before .process in
+    let x = p .result .«filter_store» in
+    rw (first-home (now (a .floats)) x _)
+    (lines-more 1 (combOf (a .feedback) (a .damping) (a .input)) (linesInTurn 0 passOf heard (slice (a .end) (a .end + 4) (reverbLines (a .rate)))) (reverbLines (a .rate)) (a .k) (a .end) (r .reverb-line .result) _ _ _ (p .last .0) (now (a .store)) (p .result .at) (now (a .positions)) (set (take 1 (now (a .floats))) 0 x) (now (a .floats)) _ _ _
+    (omega (arith, c .before .before .before .before .before .before .before .before .before .before .before .before .before .before .before .before .before .before .before .before .before .before .pre .1, c .before .before .before .before .before .before .before .before .before .before .before .before .before .before .before .before .before .before .if1 .left))
+    (omega (arith, c .before .before .before .before .before .before .before .before .before .before .before .before .before .before .before .before .before .before .before .before .before .before .pre .1, lines-length (a .rate)))
+    (r .reverb-line .ensures)
+    (c .before .before .before .before .before .before .before .before .before .before .before .before .store2 .given .0 ∙ length-take-le _ _ (omega (arith, room t r)))
+    (comb-front _ _ _ _ (now (a .positions)) (now (a .floats)) (a .feedback) (a .damping) (a .sum) (p .result) (p .ensures))
+    (rw (first-lent (now (a .floats)) x) at (c .before .before .before .before .before .before .combs .ensures))))
 
 pub +combs-spec : {M : Type 1} → statement M
 +combs-spec = close μ-combs combs-met

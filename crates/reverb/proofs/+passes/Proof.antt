@@ -1,5 +1,6 @@
--- `passes` meets its contract: the all-passes from index k on are the kth, on the front of each stretch, and those from k + 1 on, on the rest. The measure is 4 - k.
-use mathlib.Core.Path.{sym, _∙_}
+-- `passes` meets its contract: the all-passes from line k up to `end` are that of line k, on the front of each stretch, and those from k + 1 on, on the rest. The measure is end - k.
+use mathlib.Core.Path.{refl, sym, _∙_}
+use mathlib.Core.List.{[], _++_}
 use Prim.Native.Nat.{ℕ, _+_, _-_, _≤_, _<_}
 use native.Mathlib.Omega.{arith}
 use borrow.Author.Needs.{needs}
@@ -7,22 +8,22 @@ use borrow.Fn.Kinds.{In}
 use borrow.Fn.PlainCycle.{Measures, is, falls, and}
 use denote.Ref.{now}
 use lib.ListN.{length, set, drop, length-set}
-use mathlib.Core.List.{_++_}
-use lib.Seq.{length-take-le}
-use Rattle.reverb.specs.Tuning.{allPassTunings, tuningFloats}
+use lib.Seq.{slice, length-take-le}
+use Rattle.tuning.specs.Tuning.{reverbLines, total}
+use Rattle.tuning.proofs.Tunings.{lines-length}
 use Rattle.line.proofs.Lent.{lent-length}
-use Rattle.reverb.proofs.InTurn.{passes-none, passes-more}
-use Rattle.reverb.proofs.Tunings.{all-pass-floats}
+use Rattle.reverb.specs.Reverb.{heard, passOf}
+use Rattle.reverb.proofs.InTurn.{lines-floats, lines-none, lines-more, pass-front}
 use Rattle.reverb.proofs.passes.Reads as passes
 use Rattle.reverb.proofs.passes.Kinds as passes-kinds
 use Rattle.reverb.proofs.+passes.Lts-passes as passes-lts
 use Rattle.line.proofs.all_pass.process.Reads as process-reads
-use Rattle.reverb.proofs.tuning.line_of.Reads as line-of-reads
+use Rattle.tuning.proofs.reverb_line.Reads as reverb-line-reads
 use Rattle.reverb.proofs.+passes.{statement}
 use Rattle.reverb.proofs.+passes.Tie.{close}
 
 abbrev μ-passes : Measures 2 passes-kinds.ps ℕ
-μ-passes κs a = 4 - a .0
+μ-passes κs a = a .1 .0 - a .0
 
 abbrev passes-at : ℕ → In 2 passes-kinds.ps
 passes-at t = and 2 passes-kinds.ps (is 2 passes-kinds.ps μ-passes t) passes.Pre
@@ -31,22 +32,22 @@ abbrev passes-below : ℕ → In 2 passes-kinds.ps
 passes-below t = and 2 passes-kinds.ps (falls 2 passes-kinds.ps _<_ μ-passes t) passes.Pre
 
 abbrev passes-calls : ℕ → passes-lts.Claims
-passes-calls t = (line-of-reads.Asked, line-of-reads.Learnt, process-reads.Asked, process-reads.Learnt, passes-below t, passes.Post)
+passes-calls t = (reverb-line-reads.Asked, reverb-line-reads.Learnt, process-reads.Asked, process-reads.Learnt, passes-below t, passes.Post)
 
 -- the kth line, and those after it, have room in the store
-room : (t : ℕ) (c : passes-lts.After-line-of (passes-calls t) (passes-at t) passes.Post)
+room : (t : ℕ) (c : passes-lts.After-reverb-line (passes-calls t) (passes-at t) passes.Post)
     → let a = c .before .before .before .before .args in
-    c .line-of .result + tuningFloats (a .spread) (a .rate) (drop (a .k + 1) allPassTunings) ≤ length (now (a .store))
-room t c = omega (arith, all-pass-floats _ _ _ (c .before .before .before .before .args .k) (omega arith) (c .line-of .ensures .0))
+    c .reverb-line .result + total (slice (a .k + 1) (a .end) (reverbLines (a .rate))) ≤ length (now (a .store))
+room t c =
+    let a = c .before .before .before .before .args in
+    omega (arith, c .reverb-line .ensures, lines-floats (reverbLines (a .rate)) (a .k) (a .end) (omega arith) (omega (arith, lines-length (a .rate))))
 
 passes-met : {M : Type 1} (t : ℕ) → passes-lts.Closed (passes-calls t) (passes-at t) passes.Post M
 passes-met t =
     passes-lts.spec (passes-calls t) (passes-at t) passes.Post
     -- returns
-    (λ c. passes-none _ _ _ _ _ _ (c .if1 .taken))
-    -- add-line-of
-    (λ c. search needs)
-    -- line-of-requires
+    (λ c fl. lines-none _ _ _ _ _ _ _ _ _ (c .if1 .taken) refl)
+    -- reverb-line-requires
     (λ c κs. search needs)
     -- slice-relend-prefix-process
     (λ c. omega (arith, room t c))
@@ -61,7 +62,7 @@ passes-met t =
     -- add-passes
     (λ c. search needs)
     -- mul-passes
-    (λ c. search needs)
+    (λ c. omega (arith, room t (c .before .before .before .before .before), c .before .store .given .1))
     -- sub-passes
     (λ c. omega (arith, room t (c .before .before .before .before .before), c .before .store .given .1))
     -- part-passes-start
@@ -77,7 +78,7 @@ passes-met t =
     -- passes-requires
     (λ c κs.
     let a = c .before .before .before .before .before .before .before .before .before .before .before .args in
-    let n = c .before .before .before .before .before .before .before .line-of .result in
+    let n = c .before .before .before .before .before .before .before .reverb-line .result in
     let p = c .before .before .before .before .process in (
       omega arith,
       (
@@ -92,15 +93,17 @@ passes-met t =
     -- same-length-2
     (λ c. c .before .positions .given .1 ∙ simp length-set)
     -- returns-2
-    (λ c.
+    (λ c fl.
     let a = c .before .before .before .before .before .before .before .before .before .before .before .before .before .before .before .before .args in
-    passes-more _ _ (a .k) _ _ _ _ _ (now (a .positions)) _ _ _
+    let r = c .before .before .before .before .before .before .before .before .before .before .before .before in
+    let p = c .before .before .before .before .before .before .before .before .before .process in
+    lines-more 0 passOf heard (reverbLines (a .rate)) (a .k) (a .end) (r .reverb-line .result) _ (p .result .output) _ (p .last .0) (now (a .store)) (p .result .at) (now (a .positions)) [] fl _ _ fl
     (omega arith)
-    (c .before .before .before .before .before .before .before .before .before .before .before .before .line-of .ensures .0)
-    (c .before .before .before .before .before .before .before .before .store .given .0 ∙ length-take-le _ _ (omega (arith, room t (c .before .before .before .before .before .before .before .before .before .before .before .before))))
-    (omega arith)
-    (c .before .before .before .before .before .before .before .before .before .process .ensures)
-    (c .before .before .before .before .passes .ensures))
+    (omega (arith, lines-length (a .rate)))
+    (r .reverb-line .ensures)
+    (c .before .before .before .before .before .before .before .before .store .given .0 ∙ length-take-le _ _ (omega (arith, room t r)))
+    (pass-front _ _ _ _ (now (a .positions)) fl (p .result) (p .ensures))
+    (c .before .before .before .before .passes .ensures fl))
 
 pub +passes-spec : {M : Type 1} → statement M
 +passes-spec = close μ-passes passes-met
