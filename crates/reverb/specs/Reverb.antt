@@ -35,7 +35,7 @@ passOf input h =
     let p = passedOf input at (h .store) in
     heard (p .output) (holds (passLineOf input at (h .store)) (set (h .positions) 0 (p .at)) (h .floats))
 
--- lines one after another: each has the front, with one position and some floats, and hands on what it gives; then `next` has that and the rest
+-- lines one after another: each has the front, with one position and some floats, and hands on what it gives; after the last, `next` has that and the rest
 unfoldable pub linesInTurn : ℕ → (Float → Held → Heard) → (Float → Held → Heard) → List ℕ → Float → Held → Heard
 linesInTurn floats line next [] x h = next x h
 linesInTurn floats line next (n ∷ ns) x h =
@@ -43,7 +43,7 @@ linesInTurn floats line next (n ∷ ns) x h =
     let r = linesInTurn floats line next ns (p .out) (back n 1 floats h) in
     heard (r .out) (joined (p .held) (r .held))
 
--- a side has twelve lines: eight combs, and four all-passes
+-- a side has twelve lines: "eight combs a side summed from 0; four all-passes a side in series"
 unfoldable pub sideOf : List ℕ → Float → Float → Float → Held → Heard
 unfolding linesInTurn
 sideOf lines feedback damping input h = linesInTurn 1 (combOf feedback damping input) (linesInTurn 0 passOf heard (drop 8 lines)) (take 8 lines) (literal binary32 0 1) h

@@ -34,13 +34,17 @@ passes-below t = and 2 passes-kinds.ps (falls 2 passes-kinds.ps _<_ μ-passes t)
 abbrev passes-calls : ℕ → passes-lts.Claims
 passes-calls t = (reverb-line-reads.Asked, reverb-line-reads.Learnt, process-reads.Asked, process-reads.Learnt, passes-below t, passes.Post)
 
--- the kth line, and those after it, have room in the store
-room : (t : ℕ) (c : passes-lts.After-reverb-line (passes-calls t) (passes-at t) passes.Post)
+-- what holds where there is a line k: among it, that this line and those after it have room in the store
+known : (t : ℕ) (c : passes-lts.After-reverb-line (passes-calls t) (passes-at t) passes.Post)
     → let a = c .before .before .before .before .args in
-    c .reverb-line .result + total (slice (a .k + 1) (a .end) (reverbLines (a .rate))) ≤ length (now (a .store))
-room t c =
-    let a = c .before .before .before .before .args in
-    omega (arith, c .reverb-line .ensures, lines-floats (reverbLines (a .rate)) (a .k) (a .end) (omega arith) (omega (arith, lines-length (a .rate))))
+    (a .k < a .end) × (a .end ≤ 24) × (c .reverb-line .result + total (slice (a .k + 1) (a .end) (reverbLines (a .rate))) ≤ length (now (a .store))) × (a .end ≤ a .k + length (now (a .positions)))
+known t c =
+    let start = c .before .before .before .before in
+    let a = start .args in
+    let pre = start .pre .1 in
+    let more : a .k < a .end = omega (arith, pre, c .before .if1 .left) in
+    let first = lines-floats (reverbLines (a .rate)) (a .k) (a .end) more (omega (arith, pre, lines-length (a .rate))) in
+    (more, pre .1, omega (arith, pre, first, c .reverb-line .ensures), pre .3)
 
 passes-met : {M : Type 1} (t : ℕ) → passes-lts.Closed (passes-calls t) (passes-at t) passes.Post M
 passes-met t =
@@ -50,58 +54,61 @@ passes-met t =
     -- reverb-line-requires
     (λ c κs. search needs)
     -- slice-relend-prefix-process
-    (λ c. omega (arith, room t c))
+    (λ c. omega (arith, known t c))
     -- slice-aggregate-process
-    (λ c. sym (length-take-le _ _ (omega (arith, room t (c .before)))))
+    (λ c. sym (length-take-le _ _ (omega (arith, known t (c .before)))))
     -- slice-read-process
-    (λ c. search needs)
+    (λ c. omega (arith, known t (c .before .before)))
     -- process-requires
     (λ c κs. search needs)
     -- slice-write-positions
-    (λ c. search needs)
+    (λ c. omega (arith, known t (c .before .before .before .before .before)))
     -- add-passes
-    (λ c. search needs)
+    (λ c. omega (arith, known t (c .before .before .before .before .before)))
     -- mul-passes
-    (λ c. omega (arith, room t (c .before .before .before .before .before), c .before .store .given .1))
+    (λ c. omega (arith, known t (c .before .before .before .before .before), c .before .store .given .1))
     -- sub-passes
-    (λ c. omega (arith, room t (c .before .before .before .before .before), c .before .store .given .1))
+    (λ c. omega (arith, known t (c .before .before .before .before .before), c .before .store .given .1))
     -- part-passes-start
-    (λ c. omega (arith, room t (c .before .before .before .before .before), c .before .store .given .1))
+    (λ c. omega (arith, known t (c .before .before .before .before .before), c .before .store .given .1))
     -- part-passes-end
     (λ c. search needs)
     -- sub-passes-2
-    (λ c. simp length-set (omega arith))
+    (λ c. simp length-set (omega (arith, known t (c .before .before .before .before .before .before))))
     -- part-passes-start-2
-    (λ c. simp length-set (omega arith))
+    (λ c. simp length-set (omega (arith, known t (c .before .before .before .before .before .before))))
     -- part-passes-end-2
     (λ c. search needs)
     -- passes-requires
     (λ c κs.
-    let a = c .before .before .before .before .before .before .before .before .before .before .before .args in
-    let n = c .before .before .before .before .before .before .before .reverb-line .result in
-    let p = c .before .before .before .before .process in (
-      omega arith,
+    let r = c .before .before .before .before .before .before .before in
+    let a = r .before .before .before .before .args in
+    let n = r .reverb-line .result in
+    let p = c .before .before .before .before .process in
+    let k = known t r in (
+      omega (arith, k, r .before .before .before .before .pre .0),
       (
-        omega arith,
-        omega arith,
-        omega (arith, room t (c .before .before .before .before .before .before .before), c .before .before .before .store .given .1, lent-length n (p .last .0 ++ drop n (now (a .store)))),
-        omega (arith, lent-length 1 (set (now (a .positions)) 0 (p .result .at)), length-set (now (a .positions)) 0 (p .result .at)),
+        omega (arith, k),
+        omega (arith, k),
+        omega (arith, k, c .before .before .before .store .given .1, lent-length n (p .last .0 ++ drop n (now (a .store)))),
+        omega (arith, k, lent-length 1 (set (now (a .positions)) 0 (p .result .at)), length-set (now (a .positions)) 0 (p .result .at)),
       ),
     ))
     -- same-length
-    (λ c. search needs)
+    (λ c. c .before .before .before .store2 .given .1 ∙ c .before .before .before .before .before .before .before .before .store .given .1)
     -- same-length-2
     (λ c. c .before .positions .given .1 ∙ simp length-set)
     -- returns-2
     (λ c fl.
-    let a = c .before .before .before .before .before .before .before .before .before .before .before .before .before .before .before .before .args in
     let r = c .before .before .before .before .before .before .before .before .before .before .before .before in
+    let a = r .before .before .before .before .args in
     let p = c .before .before .before .before .before .before .before .before .before .process in
+    let k = known t r in
     lines-more 0 passOf heard (reverbLines (a .rate)) (a .k) (a .end) (r .reverb-line .result) _ (p .result .output) _ (p .last .0) (now (a .store)) (p .result .at) (now (a .positions)) [] fl _ _ fl
-    (omega arith)
-    (omega (arith, lines-length (a .rate)))
+    (k .0)
+    (omega (arith, k, lines-length (a .rate)))
     (r .reverb-line .ensures)
-    (c .before .before .before .before .before .before .before .before .store .given .0 ∙ length-take-le _ _ (omega (arith, room t r)))
+    (c .before .before .before .before .before .before .before .before .store .given .0 ∙ length-take-le _ _ (omega (arith, k)))
     (pass-front _ _ _ _ (now (a .positions)) fl (p .result) (p .ensures))
     (c .before .before .before .before .passes .ensures fl))
 

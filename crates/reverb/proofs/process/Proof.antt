@@ -28,7 +28,7 @@ room : (c : tie.After-floats-from) → let a = c .before .before .before .before
 room c =
     let start = c .before .before .before .before .before .before .before .before .before in
     let lines = reverbLines (start .args .rate) in
-    omega (arith, c .before .before .before .before .before .reverb-floats .ensures, floats-are (start .args .rate), total-split 12 lines)
+    omega (arith, c .before .before .before .before .before .reverb-floats .ensures, c .before .before .before .before .if1 .left, floats-are (start .args .rate), total-split 12 lines)
 
 reverb-floats-requires : tie.Need-reverb-floats-requires
 reverb-floats-requires c κs = search needs
@@ -37,10 +37,10 @@ returns : tie.Need-returns
 returns c = no-store _ _ _ _ _ _ (omega (arith, c .before .reverb-floats .ensures))
 
 returns-2 : tie.Need-returns-2
-returns-2 c = no-positions _ _ _ _ _ _ (omega (arith, c .before .before .reverb-floats .ensures)) (omega arith)
+returns-2 c = no-positions _ _ _ _ _ _ (omega (arith, c .before .before .reverb-floats .ensures, c .before .if1 .left)) (omega (arith, c .if2 .taken))
 
 returns-3 : tie.Need-returns-3
-returns-3 c = no-floats _ _ _ _ _ _ (omega (arith, c .before .before .before .reverb-floats .ensures)) (omega arith) (omega arith)
+returns-3 c = no-floats _ _ _ _ _ _ (omega (arith, c .before .before .before .reverb-floats .ensures, c .before .before .if1 .left)) (omega (arith, c .before .if2 .left)) (omega (arith, c .if3 .taken))
 
 floats-from-requires : tie.Need-floats-from-requires
 floats-from-requires c κs = search needs
@@ -60,13 +60,13 @@ slice-relend-prefix-combs-2 : tie.Need-slice-relend-prefix-combs-2
 slice-relend-prefix-combs-2 c = search needs
 
 slice-aggregate-combs-2 : tie.Need-slice-aggregate-combs-2
-slice-aggregate-combs-2 c = sym (length-take-le 12 (now (c .before .before .before .before .before .before .before .before .before .before .before .args .positions)) (omega arith))
+slice-aggregate-combs-2 c = sym (length-take-le 12 (now (c .before .before .before .before .before .before .before .before .before .before .before .args .positions)) (omega (arith, c .before .before .before .before .before .if2 .left)))
 
 slice-relend-prefix-combs-3 : tie.Need-slice-relend-prefix-combs-3
 slice-relend-prefix-combs-3 c = search needs
 
 slice-aggregate-combs-3 : tie.Need-slice-aggregate-combs-3
-slice-aggregate-combs-3 c = sym (length-take-le 8 (now (c .before .before .before .before .before .before .before .before .before .before .before .before .args .floats)) (omega arith))
+slice-aggregate-combs-3 c = sym (length-take-le 8 (now (c .before .before .before .before .before .before .before .before .before .before .before .before .args .floats)) (omega (arith, c .before .before .before .before .before .if3 .left)))
 
 combs-requires : tie.Need-combs-requires
 combs-requires c κs =
@@ -76,36 +76,36 @@ combs-requires c κs =
       omega arith,
       omega arith,
       omega (arith, left-has f, room f, length-take-le n (now (a .store)) (omega (arith, left-has f, room f)), left-floats (a .rate)),
-      omega (arith, length-take-le 12 (now (a .positions)) (omega arith)),
-      omega (arith, length-take-le 8 (now (a .floats)) (omega arith)),
+      omega (arith, length-take-le 12 (now (a .positions)) (omega (arith, f .before .before .before .if2 .left))),
+      omega (arith, length-take-le 8 (now (a .floats)) (omega (arith, f .before .before .if3 .left))),
     )
 
 mul-combs : tie.Need-mul-combs
 mul-combs c = search needs
 
 sub-combs : tie.Need-sub-combs
-sub-combs c = search needs
+sub-combs c = omega (arith, left-has (c .before .before .before .before .before .before .before .before .before .before), room (c .before .before .before .before .before .before .before .before .before .before), c .before .before .before .before .before .store .given .1)
 
 part-combs-start : tie.Need-part-combs-start
-part-combs-start c = search needs
+part-combs-start c = omega (arith, left-has (c .before .before .before .before .before .before .before .before .before .before), room (c .before .before .before .before .before .before .before .before .before .before), c .before .before .before .before .before .store .given .1)
 
 part-combs-end : tie.Need-part-combs-end
 part-combs-end c = search needs
 
 sub-combs-2 : tie.Need-sub-combs-2
-sub-combs-2 c = search needs
+sub-combs-2 c = omega (arith, c .before .before .before .before .before .before .before .before .before .before .before .before .before .before .if2 .left, c .before .before .before .before .positions .given .1)
 
 part-combs-start-2 : tie.Need-part-combs-start-2
-part-combs-start-2 c = search needs
+part-combs-start-2 c = omega (arith, c .before .before .before .before .before .before .before .before .before .before .before .before .before .before .if2 .left, c .before .before .before .before .positions .given .1)
 
 part-combs-end-2 : tie.Need-part-combs-end-2
 part-combs-end-2 c = search needs
 
 sub-combs-3 : tie.Need-sub-combs-3
-sub-combs-3 c = search needs
+sub-combs-3 c = omega (arith, c .before .before .before .before .before .before .before .before .before .before .before .before .before .before .if3 .left, c .before .before .before .floats .given .1)
 
 part-combs-start-3 : tie.Need-part-combs-start-3
-part-combs-start-3 c = search needs
+part-combs-start-3 c = omega (arith, c .before .before .before .before .before .before .before .before .before .before .before .before .before .before .if3 .left, c .before .before .before .floats .given .1)
 
 part-combs-end-3 : tie.Need-part-combs-end-3
 part-combs-end-3 c = search needs
@@ -119,8 +119,8 @@ combs-requires-2 c κs =
       omega arith,
       omega arith,
       omega (arith, left-has f, room f, c .before .before .before .before .before .before .before .before .store .given .1, lent-length n (l .1 .1 .1 .1 .1 .1 .1 .0 ++ drop n (now (a .store))), right-floats (a .rate)),
-      omega (arith, c .before .before .before .before .before .before .positions .given .1, lent-length 12 (l .1 .1 .1 .1 .1 .1 .1 .1 .0 ++ drop 12 (now (a .positions)))),
-      omega (arith, c .before .before .before .before .floats .given .1, lent-length 8 (l .1 .1 .1 .1 .1 .1 .1 .1 .1 .0 ++ drop 8 (now (a .floats)))),
+      omega (arith, f .before .before .before .if2 .left, c .before .before .before .before .before .before .positions .given .1, lent-length 12 (l .1 .1 .1 .1 .1 .1 .1 .1 .0 ++ drop 12 (now (a .positions)))),
+      omega (arith, f .before .before .if3 .left, c .before .before .before .before .floats .given .1, lent-length 8 (l .1 .1 .1 .1 .1 .1 .1 .1 .1 .0 ++ drop 8 (now (a .floats)))),
     )
 
 widened-requires : tie.Need-widened-requires
@@ -130,13 +130,13 @@ mixed-requires : tie.Need-mixed-requires
 mixed-requires c κs = search needs
 
 same-length : tie.Need-same-length
-same-length c = search needs
+same-length c = c .before .before .before .before .before .before .before .store2 .given .1 ∙ c .before .before .before .before .before .before .before .before .before .before .before .before .before .before .before .before .before .store .given .1
 
 same-length-2 : tie.Need-same-length-2
-same-length-2 c = search needs
+same-length-2 c = c .before .before .before .before .before .positions2 .given .1 ∙ c .before .before .before .before .before .before .before .before .before .before .before .before .before .before .before .positions .given .1
 
 same-length-3 : tie.Need-same-length-3
-same-length-3 c = search needs
+same-length-3 c = c .before .before .before .floats2 .given .1 ∙ c .before .before .before .before .before .before .before .before .before .before .before .before .before .floats .given .1
 
 returns-4 : tie.Need-returns-4
 unfolding literal round ofBits
