@@ -1,6 +1,6 @@
 -- What a step leaves of the store, of the positions and of the floats is as long as what it had, whatever that was. Assumes nothing.
 use mathlib.Core.Path.{_≡_, refl, _∙_}
-use mathlib.Core.Bool.{Bool, true, false, _&&_, cond}
+use mathlib.Core.Bool.{_&&_}
 use mathlib.Core.List.{List}
 use Prim.Native.Nat.{ℕ, zero, suc, _+_, _*_}
 use lib.Dec.{ltb, leb}
@@ -10,8 +10,8 @@ use lib.ListN.{length, length-set}
 use Rattle.integrators.specs.declared.Integrators.{Integrators}
 use Rattle.filters.specs.declared.filter.FilterMode.{FilterMode}
 use Rattle.filters.specs.declared.eq_filter.EqFilterKind.{EqFilterKind}
-use Rattle.line.specs.Held.{Held, front, Ran}
-use Rattle.line.proofs.Keeps.{Same, same-refl, joined-keeps, frame-in-keeps}
+use Rattle.line.specs.Held.{front, Ran}
+use Rattle.line.proofs.Keeps.{Keeps, same-refl, cond-keeps, joined-keeps, frame-in-keeps}
 use Rattle.reverb.proofs.Keeps.{reverb-keeps}
 use Rattle.stage.specs.declared.kind.Stage.{Stage}
 use Rattle.stage.specs.declared.kind.Stage.the-variants.{VolumeControl, PanningControl, Distortion, Filter, EqFilter, Reverb, Delay}
@@ -19,9 +19,6 @@ use Rattle.stage.specs.Kind.{stageAt}
 use Rattle.step.specs.Memory.{remember}
 use Rattle.step.specs.Step.{filterStage, eqStage, delayStage, stageStep, inTurn, spanOf, stepOf, processAt}
 use Rattle.step.proofs.Levels.{volume-is, panning-is, distortion-is, filter-is, eq-is, reverb-is, delay-is, step-is, span-zero, span-shallow, span-is, place-is}
-
-abbrev pub Keeps : (Ran → Ran) → Type 0
-Keeps f = (r : Ran) → Same (f r .held) (r .held)
 
 -- ---- a stage
 
@@ -56,10 +53,6 @@ module _ (inner : Ran → Ran) (keeps : Keeps inner) where
 turn-keeps : (lines places : ℕ) (f g : Ran → Ran) → Keeps f → Keeps g → Keeps (inTurn lines places f g)
 unfolding inTurn
 turn-keeps lines places f g p q r = joined-keeps lines (24 * places) (20 * places) _ _ (r .held) (p _) (q _)
-
-cond-keeps : (t : Bool) (a b : Ran) (h : Held) → Same (a .held) h → Same (b .held) h → Same (cond t a b .held) h
-cond-keeps true a b h p q = p
-cond-keeps false a b h p q = q
 
 module _ (rate : ℕ) (l : List Stage) (starts : List ℕ) where
   pub span-keeps : (n left i e : ℕ) → Keeps (spanOf n left rate l starts i e)

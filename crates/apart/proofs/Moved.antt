@@ -1,24 +1,24 @@
 -- A reverb that has room moves the position of each of its lines along that line, and leaves the positions after them. Assumes nothing.
 use mathlib.Core.Path.{_≡_, refl, ap, sym, _∙_}
 use mathlib.Core.Bool.{Bool, true, false, cond, _&&_, and-eq-true-iff}
-use mathlib.Core.List.{List, [], _∷_, _++_}
+use mathlib.Core.List.{List, [], _∷_, _++_, append-nil}
 use Prim.Native.Nat.{ℕ, zero, suc, _+_, _-_, _≤_, _<_}
 use native.Mathlib.Omega.{arith}
 use native.Mathlib.Decide.{decLt}
 use lib.Dec.{ltb, leb}
 use lib.Ieee.{Float}
-use lib.ListN.{length, getD, set, take, drop, length-append, length-drop, List·getD-append}
-use lib.Seq.{length-take-le, getD-append-add, drop-append-add, drop-drop}
+use lib.ListN.{length, getD, set, take, drop, length-append, length-take, length-drop, take-append-drop, List·getD-append}
+use lib.Seq.{length-take-le, getD-take, getD-drop, getD-append-add, drop-append-add, drop-drop}
 use borrow.Author.Tests.{lt-ltb, le-ltb, leb-true}
 use Rattle.line.specs.AllPass.{passedOf}
 use Rattle.line.specs.Comb.{combedOf}
 use Rattle.line.specs.Held.{Held, front, back, joined, Ran}
 use Rattle.line.specs.Position.{nextPosition}
-use Rattle.reverb.specs.Reverb.{Heard, combOf, passOf, passesOf, combsOf, sideOf, reverbed, reverbOf}
-use Rattle.reverb.specs.Tuning.{combTunings, allPassTunings, tunings, lineOf, tuningFloats, lengthsOf, reverbLines, reverbFloats}
+use Rattle.tuning.specs.Tuning.{reverbLines, total, reverbFloats}
+use Rattle.tuning.proofs.Tunings.{total-split, lines-length, floats-are}
+use Rattle.reverb.specs.Reverb.{Heard, heard, combOf, passOf, linesInTurn, sideOf, reverbed, reverbOf}
 use Rattle.reverb.proofs.Keeps.{side-keeps}
 use Rattle.reverb.proofs.Levels.{mono, both, fits, side-is, reverbed-is, reverb-is}
-use Rattle.reverb.proofs.Tunings.{side-floats-are, reverb-floats-are, lengths-length}
 
 -- ---- positions on lines
 
@@ -81,85 +81,81 @@ module _ (l r ps a b : List ℕ) (e : length a ≡ length l) where
           let y : length (l ++ r) ≡ length l + length r = length-append l r in
           ap (λ i. drop i (a ++ b)) x ∙ drop-append-add a b (length r) ∙ q .rest ∙ drop-drop (length r) (length l) ps ∙ ap (λ i. drop i ps) (sym y)
 
-module _ (l r : List ℕ) (pos : Positive (l ++ r)) where
-  positive-left : Positive l
-  positive-left k h = rw (List·getD-append l r 0 k h) at (pos k (omega (arith, length-append l r)))
+module _ (n : ℕ) (lines : List ℕ) (pos : Positive lines) where
+  positive-front : Positive (take n lines)
+  positive-front k h =
+      let g : k < n = omega (arith, length-take n lines) in
+      rw (getD-take n lines k 0 g) (pos k (omega (arith, length-take n lines)))
 
-  positive-right : Positive r
-  positive-right k h = rw (getD-append-add l r k 0) at (pos (length l + k) (omega (arith, length-append l r)))
+  positive-back : Positive (drop n lines)
+  positive-back k h = rw (getD-drop n lines k 0) (pos (n + k) (omega (arith, length-drop n lines)))
 
 -- ---- lines in turn, where the store has room for them
 
-abbrev Moves : List ℕ → ℕ → (Float → Held → Heard) → Type 0
-Moves lines size f = (x : Float) (h : Held) → size ≤ length (h .store) → length lines ≤ length (h .positions) → Moved lines (h .positions) (f x h .held .positions)
+abbrev Moves : List ℕ → (Float → Held → Heard) → Type 0
+Moves lines f = (x : Float) (h : Held) → total lines ≤ length (h .store) → length lines ≤ length (h .positions) → Moved lines (h .positions) (f x h .held .positions)
 
 -- what is left for the lines after one of n
 left-over : {A : Type 0} (n m : ℕ) (xs : List A) → n + m ≤ length xs → m ≤ length (drop n xs)
 left-over n m xs h = omega (arith, length-drop n xs)
 
-module _ (spread rate : ℕ) where
-  passes-move : (ts : List ℕ) → Positive (lengthsOf spread rate ts) → Moves (lengthsOf spread rate ts) (tuningFloats spread rate ts) (passesOf spread rate ts)
-  unfolding passesOf passOf passedOf front back joined lengthsOf tuningFloats
-  passes-move [] pos x h s p = moved-none (h .positions)
-  passes-move (t ∷ ts) pos x h s p =
-      moved-more (lineOf spread rate t) (lengthsOf spread rate ts) (h .positions) _ _ (omega arith)
-      (next-taken _ (lineOf spread rate t) (h .store) (omega arith) (pos 0 (omega arith)))
-      (passes-move ts (λ k g. pos (suc k) (omega arith)) _ _ (left-over (lineOf spread rate t) _ (h .store) s) (left-over 1 _ (h .positions) (omega arith)))
+-- a comb and an all-pass both move the position of their line along it
+abbrev MovesOn : (Float → Held → Heard) → Type 0
+MovesOn f = (x : Float) (h : Held) → f x h .held .positions ≡ set (h .positions) 0 (nextPosition (getD (h .positions) 0 0) (length (h .store)))
 
-  module _ (feedback damping x : Float) (next : Float → Held → Heard) (lines : List ℕ) (size : ℕ) (moves : Moves lines size next) where
-    combs-move : (ts : List ℕ) → Positive (lengthsOf spread rate ts) → Moves (lengthsOf spread rate ts ++ lines) (tuningFloats spread rate ts + size) (combsOf spread rate feedback damping x next ts)
-    unfolding combsOf combOf combedOf front back joined lengthsOf tuningFloats
-    combs-move [] pos sum h s p = moves sum h (omega arith) p
-    combs-move (t ∷ ts) pos sum h s p =
-        moved-more (lineOf spread rate t) (lengthsOf spread rate ts ++ lines) (h .positions) _ _ (omega arith)
-        (next-taken _ (lineOf spread rate t) (h .store) (omega arith) (pos 0 (omega arith)))
-        (combs-move ts (λ k g. pos (suc k) (omega arith)) _ _ (left-over (lineOf spread rate t) _ (h .store) (omega arith)) (left-over 1 _ (h .positions) (omega arith)))
+comb-moves-on : (feedback damping x : Float) → MovesOn (combOf feedback damping x)
+unfolding combOf combedOf
+comb-moves-on feedback damping x sum h = refl
 
-  -- a side's eight combs and four all-passes
-  lengths-split : lengthsOf spread rate tunings ≡ lengthsOf spread rate combTunings ++ lengthsOf spread rate allPassTunings
-  unfolding lengthsOf
-  lengths-split = refl
+pass-moves-on : MovesOn passOf
+unfolding passOf passedOf
+pass-moves-on x h = refl
 
-  side-moves : (feedback damping : Float) → Positive (lengthsOf spread rate tunings) → Moves (lengthsOf spread rate tunings) (tuningFloats spread rate tunings) (sideOf spread rate feedback damping)
-  side-moves feedback damping pos x h s p =
-      let c = lengthsOf spread rate combTunings in
-      let a = lengthsOf spread rate allPassTunings in
-      let pos' : Positive (c ++ a) = rw lengths-split at pos in
-      rw (side-is, lengths-split)
-      (combs-move feedback damping x _ a (tuningFloats spread rate allPassTunings) (passes-move allPassTunings (positive-right c a pos')) combTunings (positive-left c a pos') _ h
-      (omega (arith, side-floats-are spread rate)) (rw lengths-split at p))
+module _ (f : ℕ) (step next : Float → Held → Heard) (on : MovesOn step) (after : List ℕ) (moves : Moves after next) where
+  lines-move : (lines : List ℕ) → Positive lines → Moves (lines ++ after) (linesInTurn f step next lines)
+  unfolding linesInTurn front back joined
+  lines-move [] pos x h s p = moves x h s p
+  lines-move (n ∷ ns) pos x h s p =
+      rw on
+      (moved-more n (ns ++ after) (h .positions) _ _ (omega arith) (next-taken _ n (h .store) (omega arith) (pos 0 (omega arith)))
+      (lines-move ns (λ k g. pos (suc k) (omega arith)) _ _ (left-over n _ (h .store) s) (left-over 1 _ (h .positions) (omega arith))))
+
+-- a side's eight combs and four all-passes
+side-moves : (lines : List ℕ) (feedback damping : Float) → Positive lines → Moves lines (sideOf lines feedback damping)
+side-moves lines feedback damping pos x h s p =
+    let c = take 8 lines in
+    let a = drop 8 lines in
+    let passes = lines-move 0 passOf heard pass-moves-on [] (λ x h s p. moved-none (h .positions)) a (positive-back 8 lines pos) in
+    let combs = lines-move 1 (combOf feedback damping x) (linesInTurn 0 passOf heard a) (comb-moves-on feedback damping x) a (rw (append-nil a) at passes) c (positive-front 8 lines pos) in
+    rw side-is ((rw (take-append-drop 8 lines) at combs) _ h s p)
 
 -- ---- a reverb
 
-lines-are : (rate : ℕ) → reverbLines rate ≡ lengthsOf 0 rate tunings ++ lengthsOf 23 rate tunings
-unfolding reverbLines
-lines-are rate = refl
-
 module _ (rate : ℕ) (feedback damping width mix : Float) (r : Ran) where
-  reverbed-moves : Positive (lengthsOf 0 rate tunings ++ lengthsOf 23 rate tunings) → reverbFloats rate ≤ length (r .held .store) → 24 ≤ length (r .held .positions)
-      → Moved (lengthsOf 0 rate tunings ++ lengthsOf 23 rate tunings) (r .held .positions) (reverbed rate feedback damping width mix r .held .positions)
+  reverbed-moves : Positive (reverbLines rate) → reverbFloats rate ≤ length (r .held .store) → 24 ≤ length (r .held .positions) → Moved (reverbLines rate) (r .held .positions) (reverbed rate feedback damping width mix r .held .positions)
   unfolding both front back joined
   reverbed-moves pos s p =
+      let lines = reverbLines rate in
+      let l = take 12 lines in
+      let m = drop 12 lines in
+      let n = total l in
       let x = mono (r .frame) in
       let ps = r .held .positions in
-      let n = tuningFloats 0 rate tunings in
-      let l-12 : length (lengthsOf 0 rate tunings) ≡ 12 = lengths-length 0 rate tunings in
-      let r-12 : length (lengthsOf 23 rate tunings) ≡ 12 = lengths-length 23 rate tunings in
-      let all : reverbFloats rate ≡ n + tuningFloats 23 rate tunings = reverb-floats-are rate in
+      let all : n + total m ≡ reverbFloats rate = total-split 12 lines ∙ sym (floats-are rate) in
+      let l-12 : length l ≡ 12 = length-take-le 12 lines (omega (arith, lines-length rate)) in
+      let m-12 : length m ≡ 12 = omega (arith, length-drop 12 lines, lines-length rate) in
       let taken : length (take 12 ps) ≡ 12 = length-take-le 12 ps (omega arith) in
-      let left = side-moves 0 rate feedback damping (positive-left (lengthsOf 0 rate tunings) _ pos) x (front n 12 8 (r .held)) (omega (arith, length-take-le n (r .held .store) (omega arith))) (omega arith) in
-      let right = side-moves 23 rate feedback damping (positive-right (lengthsOf 0 rate tunings) _ pos) x (back n 12 8 (r .held)) (left-over n _ (r .held .store) (omega arith)) (left-over 12 _ ps (omega arith)) in
-      rw reverbed-is
-      (moved-join (lengthsOf 0 rate tunings) (lengthsOf 23 rate tunings) ps (sideOf 0 rate feedback damping x (front n 12 8 (r .held)) .held .positions) (sideOf 23 rate feedback damping x (back n 12 8 (r .held)) .held .positions)
-      (side-keeps 0 rate feedback damping x (front n 12 8 (r .held)) .positions ∙ taken ∙ sym l-12) (rw l-12 left) (rw l-12 right))
+      let left = side-moves l feedback damping (positive-front 12 lines pos) x (front n 12 8 (r .held)) (omega (arith, length-take-le n (r .held .store) (omega arith))) (omega arith) in
+      let right = side-moves m feedback damping (positive-back 12 lines pos) x (back n 12 8 (r .held)) (left-over n _ (r .held .store) (omega arith)) (left-over 12 _ ps (omega arith)) in
+      let a = sideOf l feedback damping x (front n 12 8 (r .held)) .held .positions in
+      let b = sideOf m feedback damping x (back n 12 8 (r .held)) .held .positions in
+      let size : length a ≡ length l = side-keeps l feedback damping x (front n 12 8 (r .held)) .positions ∙ taken ∙ sym l-12 in
+      rw reverbed-is (rw (take-append-drop 12 lines) at (moved-join l m ps a b size (rw l-12 left) (rw l-12 right)))
 
   -- also where it has no room, and changes nothing
   pub reverb-moves : OnLines (reverbLines rate) (r .held .positions) → Moved (reverbLines rate) (r .held .positions) (reverbOf rate feedback damping width mix r .held .positions)
   reverb-moves on = rw reverb-is (go (fits rate (r .held)) refl)
     where
-      pos : Positive (reverbLines rate)
-      pos k h = omega (arith, on k h)
-
       go : (t : Bool) → fits rate (r .held) ≡ t → Moved (reverbLines rate) (r .held .positions) (cond t (reverbed rate feedback damping width mix r) r .held .positions)
       go false q = record { on = on; rest = refl }
       go true q =
@@ -167,4 +163,4 @@ module _ (rate : ℕ) (feedback damping width mix : Float) (r : Ran) where
           let p = leb 24 (length (r .held .positions)) in
           let sp = and-eq-true-iff (s && p) (leb 16 (length (r .held .floats))) .0 q in
           let both = and-eq-true-iff s p .0 (sp .0) in
-          rw lines-are (reverbed-moves (rw lines-are at pos) (leb-true _ _ (both .0)) (leb-true _ _ (both .1)))
+          reverbed-moves (λ k h. omega (arith, on k h)) (leb-true _ _ (both .0)) (leb-true _ _ (both .1))

@@ -1,7 +1,7 @@
 -- Positions stay on their lines: if each remembered position of the stages from i up to e is below its line's length, then it is so after a step, which the crate above needs for a block that is cut. Assumes nothing.
 -- Neither the store's length nor the shape of the list matters for that, and that each line has a length at all is in what is assumed.
 use mathlib.Core.Path.{_≡_, refl, ap, sym, _∙_}
-use mathlib.Core.Bool.{false, cond}
+use mathlib.Core.Bool.{cond}
 use mathlib.Core.List.{List, _++_}
 use Prim.Native.Nat.{ℕ, zero, suc, _+_, _*_, _-_, _≤_, _<_}
 use native.Mathlib.Omega.{arith}
@@ -11,24 +11,23 @@ use lib.Ieee.{Float}
 use lib.Dec.{ltb}
 use lib.ListN.{length, getD, set, take, drop, length-drop, length-set, List·getD-append}
 use lib.Seq.{length-take-le, getD-take, getD-drop, getD-append-add, getD-set-same, drop-drop}
-use borrow.Author.Tests.{lt-ltb, le-ltb, lt-leb, leb-false}
+use borrow.Author.Tests.{lt-ltb, le-ltb}
 use Rattle.order.specs.Stretch.{part, splice}
-use Rattle.order.proofs.Stretches.{length-part}
 use Rattle.line.specs.Frames.{frameAt}
 use Rattle.line.specs.Held.{front, back, joined, Ran, ran}
 use Rattle.line.specs.Position.{nextPosition}
-use Rattle.reverb.proofs.Tunings.{lines-length}
+use Rattle.line.proofs.Keeps.{Keeps}
+use Rattle.tuning.proofs.Tunings.{lines-length}
 use Rattle.stage.specs.declared.kind.Stage.{Stage}
 use Rattle.stage.specs.declared.kind.Stage.the-variants.{VolumeControl, PanningControl, Distortion, Filter, EqFilter, Reverb, Delay}
 use Rattle.stage.specs.Kind.{stageAt, nextPlace}
 use Rattle.stage.specs.Layout.{sizeOf, frontPlaces, backPlaces}
-use Rattle.stage.specs.Lines.{linesOf, lostOf}
+use Rattle.stage.specs.Lines.{linesOf}
 use Rattle.stage.proofs.Next.{next-le, next-more}
-use Rattle.stage.proofs.Firsts.{some-none, none-clear}
 use Rattle.step.specs.Step.{filterStage, eqStage, delayStage, stageStep, inTurn, spanOf, stepOf, processAt}
 use Rattle.step.proofs.Levels.{volume-is, panning-is, distortion-is, filter-is, eq-is, reverb-is, delay-is, step-is, span-zero, span-shallow, span-is}
 use Rattle.step.proofs.Steps.{place-inside, place-empty, place-past}
-use Rattle.apart.proofs.Keeps.{Keeps, step-keeps, place-keeps}
+use Rattle.apart.proofs.Keeps.{step-keeps}
 use Rattle.apart.proofs.Moved.{OnLines, Moved, next-on, reverb-moves}
 
 -- ps are the positions of the places from i up to e, 24 of each: of the stage at place j, the kth is below the length of the kth line
@@ -200,30 +199,3 @@ module _ (rate : ℕ) (l : List Stage) (c : ℕ) where
       let y : drop (length a) (drop (24 * i) ps) ≡ drop (24 * e) ps = drop-drop (length a) (24 * i) ps ∙ ap (λ m. drop m ps) x in
       good-join rate l 0 i c (take (24 * i) ps) _ (omega arith) (rw z (length-take-le (24 * i) ps (omega arith))) (rw z at (good-front rate l 0 i c ps (omega arith) g'))
       (rw y (good-join rate l i e c a _ ie q g (rw w at (good-back rate l 0 e c ps (omega arith) g'))))
-
-  -- in the words of refusal 6, which looks at a place's 24 positions
-  pub lost-good : (ps : List ℕ) → ((j : ℕ) → j < c → lostOf rate (stageAt l j) (part (24 * j) 24 ps) ≡ false) → Good rate l 0 c ps
-  unfolding lostOf
-  lost-good ps f j k ij jc kn =
-      let few = few-lines rate (stageAt l j) in
-      let z : j - 0 ≡ j = omega arith in
-      let on : getD (part (24 * j) 24 ps) k 0 < getD (linesOf rate (stageAt l j)) k 0 = leb-false _ _ (none-clear _ _ (f j jc) k kn) in
-      rw z (rw (getD-take 24 (drop (24 * j) ps) k 0 (omega arith), getD-drop (24 * j) ps k 0) at on)
-
-  pub good-lost : (ps : List ℕ) → Good rate l 0 c ps → (j : ℕ) → j < c → lostOf rate (stageAt l j) (part (24 * j) 24 ps) ≡ false
-  unfolding lostOf
-  good-lost ps g j jc =
-      let few = few-lines rate (stageAt l j) in
-      let z : j - 0 ≡ j = omega arith in
-      some-none _ _ (λ k kn. rw (getD-take 24 (drop (24 * j) ps) k 0 (omega arith), getD-drop (24 * j) ps k 0) (lt-leb _ _ (rw z at (g j k (omega arith) jc kn))))
-
-  -- no position is lost by a step of the stage at place i, whose own stages end at e
-  pub lost-never : (starts : List ℕ) (i e : ℕ) (r : Ran) (ps : List ℕ) → i ≤ e → e ≤ c → 24 * c ≤ length ps → r .held .positions ≡ part (24 * i) (24 * (e - i)) ps
-      → ((j : ℕ) → j < c → lostOf rate (stageAt l j) (part (24 * j) 24 ps) ≡ false)
-      → (j : ℕ) → j < c → lostOf rate (stageAt l j) (part (24 * j) 24 (splice (24 * i) (processAt rate l starts i e r .held .positions) ps)) ≡ false
-  lost-never starts i e r ps ie ec n q f =
-      let size : length (r .held .positions) ≡ 24 * (e - i) = ap length q ∙ length-part (24 * i) (24 * (e - i)) ps (omega arith) in
-      let all : Good rate l 0 c ps = lost-good ps f in
-      let mine : Good rate l i e (r .held .positions) = rw q (good-part i e ps ec all) in
-      let after = processAt rate l starts i e r .held .positions in
-      good-lost (splice (24 * i) after ps) (good-splice i e after ps ie ec n (place-keeps rate l starts i e r .positions ∙ size) (place-stays rate l starts i e r (omega arith) mine) all)

@@ -16,7 +16,7 @@ use Rattle.line.specs.Frames.{frameAt, frameIn}
 use Rattle.line.specs.Position.{nextPosition}
 use Rattle.line.specs.AllPass.{passedOf, passLineOf}
 use Rattle.line.specs.Comb.{storeOf, combedOf, combLineOf}
-use Rattle.reverb.specs.Tuning.{lengthOf}
+use Rattle.tuning.specs.Tuning.{lengthOf}
 use Rattle.order.specs.Chain as Order
 use Rattle.order.specs.Finish.{finishing-from}
 use Rattle.stage.specs.First.{firstFrom}

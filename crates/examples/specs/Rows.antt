@@ -15,7 +15,7 @@ use Rattle.effect.specs.declared.distortion.DistortionKind.the-variants.{HardCl
 use Rattle.effect.specs.Distortion.{distortionOf}
 use Rattle.line.specs.AllPass.{passedOf, passLineOf}
 use Rattle.line.specs.Comb.{combedOf, combLineOf}
-use Rattle.reverb.specs.Tuning.{lengthOf}
+use Rattle.tuning.specs.Tuning.{lengthOf}
 use Rattle.stage.specs.declared.kind.Stage.{Stage}
 use Rattle.stage.specs.declared.kind.Stage.the-variants.{VolumeControl, Delay}
 use Rattle.answer.specs.Answer.{numberOf, placeOf}

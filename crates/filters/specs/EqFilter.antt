@@ -14,7 +14,8 @@ use Rattle.integrators.specs.declared.Filtered.{Filtered}
 use Rattle.filters.specs.declared.eq_filter.Coefficients.{Coefficients}
 use Rattle.filters.specs.declared.eq_filter.EqFilterKind.{EqFilterKind}
 use Rattle.filters.specs.declared.eq_filter.EqFilterKind.the-variants.{Bell, LowShelf, HighShelf}
-use Rattle.integrators.specs.Integrators.{weightsOf, steppedOf}
+use Rattle.integrators.specs.Integrators.{weightsOf}
+use Rattle.filters.specs.Narrowed.{narrowedOf}
 
 abbrev one : Float
 one = literal binary64 1 1
@@ -42,11 +43,11 @@ coefficientsOf Bell g q gain = bellOf g (hundredthOf q) (eqAmplitudeOf gain)
 coefficientsOf LowShelf g q gain = lowShelfOf g (hundredthOf q) (eqAmplitudeOf gain)
 coefficientsOf HighShelf g q gain = highShelfOf g (hundredthOf q) (eqAmplitudeOf gain)
 
--- each coefficient narrowed where it is used
+-- m0, m1 and m2 too are narrowed where they are used
 unfoldable pub eqOf : EqFilterKind → Float → Float → ℤ → Integrators → Frame → Filtered
-unfolding coefficientsOf steppedOf
+unfolding coefficientsOf narrowedOf
 eqOf kind g q gain memory frame =
     let c = coefficientsOf kind g q gain in
-    let s = steppedOf memory frame (narrowOf binary32 (c .a1)) (narrowOf binary32 (c .a2)) (narrowOf binary32 (c .a3)) in
+    let s = narrowedOf memory frame (c .a1) (c .a2) (c .a3) in
     let p = s .parts in
     record { output = addOf (addOf (mulOf frame (narrowOf binary32 (c .m0))) (mulOf (p .v1) (narrowOf binary32 (c .m1)))) (mulOf (p .v2) (narrowOf binary32 (c .m2))); after = s .after }

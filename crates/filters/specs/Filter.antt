@@ -11,7 +11,8 @@ use Rattle.integrators.specs.declared.Parts.{Parts}
 use Rattle.integrators.specs.declared.Filtered.{Filtered}
 use Rattle.filters.specs.declared.filter.FilterMode.{FilterMode}
 use Rattle.filters.specs.declared.filter.FilterMode.the-variants.{LowPass, BandPass, HighPass, Notch}
-use Rattle.integrators.specs.Integrators.{weightsOf, steppedOf}
+use Rattle.integrators.specs.Integrators.{weightsOf}
+use Rattle.filters.specs.Narrowed.{narrowedOf}
 
 -- `let k = 2.0 - (1.9 * resonance)`, the resonance clamped to 0..1
 unfoldable pub dampingOf : Float → Float
@@ -25,9 +26,9 @@ outputOf HighPass frame p k = subOf (subOf frame (mulOf (p .v1) k)) (p .v2)
 outputOf Notch frame p k = subOf frame (mulOf (p .v1) k)
 
 unfoldable pub filterOf : FilterMode → Float → Float → Float → Integrators → Frame → Filtered
-unfolding dampingOf outputOf weightsOf steppedOf
+unfolding dampingOf outputOf weightsOf narrowedOf
 filterOf mode g resonance mix memory frame =
     let k = dampingOf resonance in
     let a = weightsOf g k in
-    let s = steppedOf memory frame (narrowOf binary32 (a .a1)) (narrowOf binary32 (a .a2)) (narrowOf binary32 (a .a3)) in
+    let s = narrowedOf memory frame (a .a1) (a .a2) (a .a3) in
     record { output = mixOf (outputOf mode frame (s .parts) (narrowOf binary32 k)) frame mix; after = s .after }

@@ -1,2 +1,3 @@
+pub mod Narrowed
 pub mod Filter
 pub mod EqFilter

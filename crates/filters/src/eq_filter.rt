@@ -2,12 +2,12 @@
 // operations of `Coefficients::calculate` in their order from the caller's g.
 ghost use mathlib.Core.Path.{_≡_};
 ghost use Rattle.filters.specs.EqFilter.{bellOf, lowShelfOf, highShelfOf, coefficientsOf, eqOf};
+use crate::narrowed::run_narrowed;
 use decibels::eq_amplitude;
 use float::clamp::at_least_hundredth_f64;
 use frame::Frame;
 use integrators::Filtered;
 use integrators::Integrators;
-use integrators::run;
 use integrators::weigh;
 use rounding::narrow::as_f32;
 use rounding::sqrt::sqrt_f64;
@@ -97,16 +97,7 @@ pub fn process(
     ensures { λ r. ⌜ r ≡ eqOf kind g q gain memory input ⌝ }
 {
     let c = Coefficients::calculate(kind, g, q, gain);
-    let ic1eq = memory.ic1eq;
-    let ic2eq = memory.ic2eq;
-    let stepped = run(
-        ic1eq,
-        ic2eq,
-        input,
-        as_f32(c.a1),
-        as_f32(c.a2),
-        as_f32(c.a3),
-    );
+    let stepped = run_narrowed(memory, input, c.a1, c.a2, c.a3);
     let parts = stepped.parts;
     let after = stepped.after;
     let v1 = parts.v1;

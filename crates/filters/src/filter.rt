@@ -2,12 +2,12 @@
 // kira takes of the cutoff, and are narrowed where the Rust says `as f32`.
 ghost use mathlib.Core.Path.{_≡_};
 ghost use Rattle.filters.specs.Filter.{outputOf, filterOf};
+use crate::narrowed::run_narrowed;
 use float::clamp::clamp_unit_f64;
 use frame::Frame;
 use integrators::Filtered;
 use integrators::Integrators;
 use integrators::Parts;
-use integrators::run;
 use integrators::weigh;
 use rounding::narrow::as_f32;
 
@@ -44,16 +44,7 @@ pub fn process(
 {
     let k = 2.0 - 1.9 * clamp_unit_f64(resonance);
     let a = weigh(g, k);
-    let ic1eq = memory.ic1eq;
-    let ic2eq = memory.ic2eq;
-    let stepped = run(
-        ic1eq,
-        ic2eq,
-        input,
-        as_f32(a.a1),
-        as_f32(a.a2),
-        as_f32(a.a3),
-    );
+    let stepped = run_narrowed(memory, input, a.a1, a.a2, a.a3);
     let parts = stepped.parts;
     let after = stepped.after;
     let wet = output(mode, input, parts, as_f32(k));

@@ -2,3 +2,4 @@
 // and what it remembers, and gives the frame that comes out and what it remembers then.
 pub mod eq_filter;
 pub mod filter;
+mod narrowed;

@@ -1,6 +1,8 @@
 // kira's `all_pass.rs`, whose feedback is 0.5: read, then store, then move on, as a comb does.
 ghost use mathlib.Core.Path.{_≡_};
 ghost use Rattle.line.specs.AllPass.{passedOf, passLineOf};
+use crate::floats::float_at;
+use crate::floats::put_float;
 use crate::position::next_position;
 
 pub struct Passed {
@@ -12,15 +14,8 @@ pub fn process(line: &mut [f32], at: usize, input: f32) -> Passed
     ensures { λ r. ⌜ (r ≡ passedOf input at (now (line .entry))) × (now (line .exit) ≡ passLineOf input at (now (line .entry))) ⌝ }
 {
     let next = next_position(at, line.len());
-    if at < line.len() {
-        let buffer_output = line[at];
-        line[at] = input + buffer_output * 0.5;
-        return Passed {
-            output: -input + buffer_output,
-            at: next,
-        };
-    }
-    let buffer_output = 0.0 / 0.0;
+    let buffer_output = float_at(line, at);
+    put_float(line, at, input + buffer_output * 0.5);
     Passed {
         output: -input + buffer_output,
         at: next,

@@ -2,6 +2,8 @@
 // position moves on. A position past the line's end reads NaN and stores nothing.
 ghost use mathlib.Core.Path.{_≡_};
 ghost use Rattle.line.specs.Comb.{combedOf, combLineOf};
+use crate::floats::float_at;
+use crate::floats::put_float;
 use crate::position::next_position;
 
 pub struct Combed {
@@ -21,20 +23,12 @@ pub fn process(
     ensures { λ r. ⌜ (r ≡ combedOf damp at «filter_store» (now (line .entry))) × (now (line .exit) ≡ combLineOf feedback damp input at «filter_store» (now (line .entry))) ⌝ }
 {
     let next = next_position(at, line.len());
-    if at < line.len() {
-        let output = line[at];
-        let stored = output * (1.0 - damp) + filter_store * damp;
-        line[at] = input + stored * feedback;
-        return Combed {
-            output,
-            at: next,
-            filter_store: stored,
-        };
-    }
-    let output = 0.0 / 0.0;
+    let output = float_at(line, at);
+    let stored = output * (1.0 - damp) + filter_store * damp;
+    put_float(line, at, input + stored * feedback);
     Combed {
         output,
         at: next,
-        filter_store: output * (1.0 - damp) + filter_store * damp,
+        filter_store: stored,
     }
 }

@@ -3,5 +3,6 @@
 // piece of code is lent exactly what it may touch.
 pub mod all_pass;
 pub mod comb;
+mod floats;
 pub mod frames;
 pub mod position;

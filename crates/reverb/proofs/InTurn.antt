@@ -1,54 +1,55 @@
--- One more all-pass or comb on the front of each stretch, and those after it on the rest: the definitions, as the code takes the slices apart. Assumes nothing.
-use mathlib.Core.Path.{_≡_, ap, _∙_}
-use mathlib.Core.List.{List, _++_}
-use Prim.Native.Nat.{ℕ, _+_, _<_}
+-- One more line on the front of each stretch, and those after it on the rest: the definition, as the code takes the slices apart. One law for any line, and then a comb and an all-pass. Assumes nothing.
+use mathlib.Core.Path.{_≡_, _∙_}
+use mathlib.Core.List.{List, [], _++_}
+use Prim.Native.Nat.{ℕ, _+_, _≤_, _<_}
 use native.Mathlib.Numerals.{add-one}
 use native.Mathlib.Omega.{arith}
 use lib.Ieee.{Float, nan, binary32, add}
-use lib.ListN.{length, getD, set, take, drop, List·getD-append}
-use lib.Seq.{drop-cons, getD-take, getD-append-add}
+use lib.ListN.{length, getD, set, take, drop}
+use lib.Seq.{length-take-le, slice, slice-empty, slice-cons, getD-take}
 use Rattle.line.specs.declared.all_pass.Passed.{Passed}
 use Rattle.line.specs.declared.comb.Combed.{Combed}
 use Rattle.line.specs.AllPass.{passedOf, passLineOf}
 use Rattle.line.specs.Comb.{combedOf, combLineOf}
 use Rattle.line.specs.Held.{Held, holds, front, back, joined}
-use Rattle.reverb.specs.Tuning.{combTunings, allPassTunings, tunings, lineOf}
-use Rattle.reverb.specs.Reverb.{Heard, heard, combOf, passOf, passesOf, combsOf}
 use Rattle.line.proofs.Lent.{lent, home, rest-lent, rest-home, first-lent, first-home}
+use Rattle.tuning.specs.Tuning.{total}
+use Rattle.tuning.proofs.Tunings.{total-more}
+use Rattle.reverb.specs.Reverb.{Heard, heard, combOf, passOf, linesInTurn}
 
-module _ (spread rate k : ℕ) where
-  pub passes-none : (x : Float) (st : List Float) (po : List ℕ) → k ≡ 4 → (fl : List Float) → heard x (holds st po fl) ≡ passesOf spread rate (drop k allPassTunings) x (holds st po fl)
-  unfolding passesOf
-  passes-none x st po e fl = rw e
+-- the lines from k up to e: what they have together
+pub lines-floats : (l : List ℕ) (k e : ℕ) → k < e → e ≤ length l → total (slice k e l) ≡ getD l k 0 + total (slice (k + 1) e l)
+lines-floats l k e h g =
+    let size : k < length (take e l) = omega (arith, length-take-le e l g) in
+    total-more (take e l) k size ∙ rw (getD-take e l k 0 h)
 
-  -- the kth all-pass gave p and left `line`; then the others, lent the rest, gave z and left st and po
-  module _ (n : ℕ) (x : Float) (p : Passed) (line store : List Float) (positions : List ℕ) (z : Float) (st : List Float) (po : List ℕ) where
-    pub passes-more : k < 4 → n ≡ lineOf spread rate (getD tunings (8 + k) 0) → length line ≡ n → 0 < length positions
-        → (p ≡ passedOf x (getD positions 0 0) (take n store)) × (line ≡ passLineOf x (getD positions 0 0) (take n store))
-        → ((fl : List Float) → heard z (holds st po fl) ≡ passesOf spread rate (drop (k + 1) allPassTunings) (p .output) (holds (lent n (line ++ drop n store)) (lent 1 (set positions 0 (p .at))) fl))
-        → (fl : List Float) → heard z (holds (home n (line ++ drop n store) st) (home 1 (set positions 0 (p .at)) po) fl) ≡ passesOf spread rate (drop k allPassTunings) x (holds store positions fl)
-    unfolding passesOf passOf front back joined
-    passes-more h e l q first rest fl =
-        let n-is : n ≡ lineOf spread rate (getD allPassTunings k 0) = e ∙ ap (lineOf spread rate) (getD-append-add combTunings allPassTunings k 0) in
-        rw (rest-home n line store l st, first-home positions (p .at) q po, drop-cons allPassTunings k 0 h, ← n-is, getD-take 1 positions 0 0 (omega arith), ← first .0, ← first .1)
-        (rw (← (rw (add-one k, rest-lent n line store l, first-lent positions (p .at) q) at (rest fl))))
+-- and what they give
+module _ (f : ℕ) (step next : Float → Held → Heard) (l : List ℕ) (k e : ℕ) where
+  pub lines-none : (x : Float) (h : Held) (r : Heard) → k ≡ e → r ≡ next x h → r ≡ linesInTurn f step next (slice k e l) x h
+  unfolding linesInTurn
+  lines-none x h r q given = rw (q, slice-empty e l) given
 
--- combs, whose sum goes to `next`
-module _ (spread rate : ℕ) (feedback damping x : Float) (next : Float → Held → Heard) (k : ℕ) where
-  pub combs-none : (sum : Float) (h : Held) (r : Heard) → k ≡ 8 → r ≡ next sum h → r ≡ combsOf spread rate feedback damping x next (drop k combTunings) sum h
-  unfolding combsOf
-  combs-none sum h r e q = rw e q
+  -- line k gave y and left `line`, and `own` of its floats; then the others, lent the rest, gave z and left st, po and fl
+  module _ (n : ℕ) (x y z : Float) (line store : List Float) (at : ℕ) (positions : List ℕ) (own floats st : List Float) (po : List ℕ) (fl : List Float) where
+    pub lines-more : k < e → e ≤ length l → n ≡ getD l k 0 → length line ≡ n
+        → step x (front n 1 f (holds store positions floats)) ≡ heard y (holds line (set (take 1 positions) 0 at) own)
+        → heard z (holds st po fl) ≡ linesInTurn f step next (slice (k + 1) e l) y (holds (lent n (line ++ drop n store)) (lent 1 (set positions 0 at)) (drop f floats))
+        → heard z (holds (home n (line ++ drop n store) st) (home 1 (set positions 0 at) po) (own ++ fl)) ≡ linesInTurn f step next (slice k e l) x (holds store positions floats)
+    unfolding linesInTurn back joined
+    lines-more h g n-is m first rest =
+        rw (rest-home n line store m st, first-home positions at po, slice-cons k e l 0 h g, ← n-is, first)
+        (rw (← (rw (add-one k, rest-lent n line store m, first-lent positions at) at rest)))
 
-  -- the kth comb gave c and left `line`; then the others, lent the rest, gave z and left st, po and fl
-  module _ (n : ℕ) (sum : Float) (c : Combed) (line store : List Float) (positions : List ℕ) (floats : List Float) (z : Float) (st : List Float) (po : List ℕ) (fl : List Float) where
-    pub combs-more : k < 8 → n ≡ lineOf spread rate (getD tunings k 0) → length line ≡ n → 0 < length positions → 0 < length floats
-        → (c ≡ combedOf damping (getD positions 0 0) (getD floats 0 nan) (take n store)) × (line ≡ combLineOf feedback damping x (getD positions 0 0) (getD floats 0 nan) (take n store))
-        → heard z (holds st po fl)
-        ≡ combsOf spread rate feedback damping x next (drop (k + 1) combTunings) (add binary32 sum (c .output)) (holds (lent n (line ++ drop n store)) (lent 1 (set positions 0 (c .at))) (lent 1 (set floats 0 (c .«filter_store»))))
-        → heard z (holds (home n (line ++ drop n store) st) (home 1 (set positions 0 (c .at)) po) (home 1 (set floats 0 (c .«filter_store»)) fl))
-        ≡ combsOf spread rate feedback damping x next (drop k combTunings) sum (holds store positions floats)
-    unfolding combsOf combOf front back joined
-    combs-more h e l q f first rest =
-        let n-is : n ≡ lineOf spread rate (getD combTunings k 0) = e ∙ ap (lineOf spread rate) (List·getD-append combTunings allPassTunings 0 k h) in
-        rw (rest-home n line store l st, first-home positions (c .at) q po, first-home floats (c .«filter_store») f fl, drop-cons combTunings k 0 h, ← n-is, getD-take 1 positions 0 0 (omega arith), getD-take 1 floats 0 nan (omega arith), ← first .0, ← first .1)
-        (rw (← (rw (add-one k, rest-lent n line store l, first-lent positions (c .at) q, first-lent floats (c .«filter_store») f) at rest)))
+module _ (n : ℕ) (x : Float) (line store : List Float) (positions : List ℕ) (floats : List Float) where
+  -- an all-pass gave p
+  pub pass-front : (p : Passed) → (p ≡ passedOf x (getD positions 0 0) (take n store)) × (line ≡ passLineOf x (getD positions 0 0) (take n store))
+      → passOf x (front n 1 0 (holds store positions floats)) ≡ heard (p .output) (holds line (set (take 1 positions) 0 (p .at)) [])
+  unfolding passOf front
+  pass-front p gave = rw (getD-take 1 positions 0 0 (omega arith), ← gave .0, ← gave .1)
+
+  -- a comb gave c
+  pub comb-front : (feedback damping sum : Float) (c : Combed)
+      → (c ≡ combedOf damping (getD positions 0 0) (getD floats 0 nan) (take n store)) × (line ≡ combLineOf feedback damping x (getD positions 0 0) (getD floats 0 nan) (take n store))
+      → combOf feedback damping x sum (front n 1 1 (holds store positions floats)) ≡ heard (add binary32 sum (c .output)) (holds line (set (take 1 positions) 0 (c .at)) (set (take 1 floats) 0 (c .«filter_store»)))
+  unfolding combOf front
+  comb-front feedback damping sum c gave = rw (getD-take 1 positions 0 0 (omega arith), getD-take 1 floats 0 nan (omega arith), ← gave .0, ← gave .1)

@@ -1,7 +1,5 @@
-pub mod Tunings
 pub mod InTurn
 pub mod Levels
 pub mod Sides
 pub mod Keeps
 pub mod OneOutcome
-pub mod Examples

@@ -1,2 +1,1 @@
-pub mod Tuning
 pub mod Reverb

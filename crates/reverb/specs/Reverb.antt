@@ -3,7 +3,7 @@ use mathlib.Core.Bool.{_&&_, cond}
 use mathlib.Core.List.{List, [], _∷_}
 use Prim.Native.Nat.{ℕ}
 use lib.Dec.{leb}
-use lib.ListN.{length, getD, set}
+use lib.ListN.{length, getD, set, take, drop}
 use lib.Ieee.{Float, nan, binary32, add, sub, mul, div}
 use Rattle.float.specs.Literal.{literal}
 use Rattle.frame.specs.declared.Frame.{Frame}
@@ -11,7 +11,7 @@ use Rattle.frame.specs.Mix.{mixOf}
 use Rattle.line.specs.Held.{Held, holds, front, back, joined, Ran, ran}
 use Rattle.line.specs.Comb.{combedOf, combLineOf}
 use Rattle.line.specs.AllPass.{passedOf, passLineOf}
-use Rattle.reverb.specs.Tuning.{combTunings, allPassTunings, tunings, lineOf, tuningFloats, reverbFloats}
+use Rattle.tuning.specs.Tuning.{reverbLines, total, reverbFloats}
 
 -- a sample, and what is held beside it
 pub record Heard : Type 0 where
@@ -21,13 +21,13 @@ pub record Heard : Type 0 where
 abbrev pub heard : Float → Held → Heard
 heard x h = record { out = x; held = h }
 
--- one comb and one all-pass, each with nothing but its own line, position and, for the comb, remembered float
-unfoldable pub combOf : Float → Float → Float → Held → Heard
-combOf feedback damping input h =
+-- one comb and one all-pass, each with nothing but its own line, position and, for the comb, remembered float; a comb adds what it gives to the sum so far
+unfoldable pub combOf : Float → Float → Float → Float → Held → Heard
+combOf feedback damping input sum h =
     let at = getD (h .positions) 0 0 in
     let remembered = getD (h .floats) 0 nan in
     let c = combedOf damping at remembered (h .store) in
-    heard (c .output) (holds (combLineOf feedback damping input at remembered (h .store)) (set (h .positions) 0 (c .at)) (set (h .floats) 0 (c .«filter_store»)))
+    heard (add binary32 sum (c .output)) (holds (combLineOf feedback damping input at remembered (h .store)) (set (h .positions) 0 (c .at)) (set (h .floats) 0 (c .«filter_store»)))
 
 unfoldable pub passOf : Float → Held → Heard
 passOf input h =
@@ -35,27 +35,18 @@ passOf input h =
     let p = passedOf input at (h .store) in
     heard (p .output) (holds (passLineOf input at (h .store)) (set (h .positions) 0 (p .at)) (h .floats))
 
--- all-passes in series: the first has the front, and the others have what it gives and the rest
-unfoldable pub passesOf : ℕ → ℕ → List ℕ → Float → Held → Heard
-passesOf spread rate [] x h = heard x h
-passesOf spread rate (t ∷ ts) x h =
-    let n = lineOf spread rate t in
-    let p = passOf x (front n 1 0 h) in
-    let r = passesOf spread rate ts (p .out) (back n 1 0 h) in
+-- lines one after another: each has the front, with one position and some floats, and hands on what it gives; after the last, `next` has that and the rest
+unfoldable pub linesInTurn : ℕ → (Float → Held → Heard) → (Float → Held → Heard) → List ℕ → Float → Held → Heard
+linesInTurn floats line next [] x h = next x h
+linesInTurn floats line next (n ∷ ns) x h =
+    let p = line x (front n 1 floats h) in
+    let r = linesInTurn floats line next ns (p .out) (back n 1 floats h) in
     heard (r .out) (joined (p .held) (r .held))
 
--- combs side by side: each has the input, the front of what is left, and adds to the sum; `next` has the sum and the rest
-unfoldable pub combsOf : ℕ → ℕ → Float → Float → Float → (Float → Held → Heard) → List ℕ → Float → Held → Heard
-combsOf spread rate feedback damping input next [] sum h = next sum h
-combsOf spread rate feedback damping input next (t ∷ ts) sum h =
-    let n = lineOf spread rate t in
-    let c = combOf feedback damping input (front n 1 1 h) in
-    let r = combsOf spread rate feedback damping input next ts (add binary32 sum (c .out)) (back n 1 1 h) in
-    heard (r .out) (joined (c .held) (r .held))
-
-unfoldable pub sideOf : ℕ → ℕ → Float → Float → Float → Held → Heard
-unfolding combsOf passesOf
-sideOf spread rate feedback damping input h = combsOf spread rate feedback damping input (passesOf spread rate allPassTunings) combTunings (literal binary32 0 1) h
+-- a side has twelve lines: "eight combs a side summed from 0; four all-passes a side in series"
+unfoldable pub sideOf : List ℕ → Float → Float → Float → Held → Heard
+unfolding linesInTurn
+sideOf lines feedback damping input h = linesInTurn 1 (combOf feedback damping input) (linesInTurn 0 passOf heard (drop 8 lines)) (take 8 lines) (literal binary32 0 1) h
 
 -- `wet_1 = stereo_width / 2.0 + 0.5`, `wet_2 = (1.0 - stereo_width) / 2.0`
 unfoldable pub widthOf : Float → Float → Float → Frame
@@ -69,9 +60,10 @@ unfoldable pub reverbed : ℕ → Float → Float → Float → Float → Ran �
 unfolding sideOf
 reverbed rate feedback damping width mix r =
     let input = mul binary32 (add binary32 (r .frame .left) (r .frame .right)) (literal binary32 15 1000) in
-    let n = tuningFloats 0 rate tunings in
-    let left = sideOf 0 rate feedback damping input (front n 12 8 (r .held)) in
-    let right = sideOf 23 rate feedback damping input (back n 12 8 (r .held)) in
+    let lines = reverbLines rate in
+    let n = total (take 12 lines) in
+    let left = sideOf (take 12 lines) feedback damping input (front n 12 8 (r .held)) in
+    let right = sideOf (drop 12 lines) feedback damping input (back n 12 8 (r .held)) in
     ran (mixOf (widthOf (left .out) (right .out) width) (r .frame) mix) (joined (left .held) (right .held))
 
 -- where there is room for it; otherwise the frame comes back and nothing changes

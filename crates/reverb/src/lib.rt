@@ -3,43 +3,42 @@
 // the right side's. Each line is lent alone, and the rest of the stretch is handed on.
 ghost use mathlib.Core.Path.{_≡_};
 ghost use mathlib.Core.List.{List};
-ghost use Prim.Native.Nat.{_+_, _-_, _≤_};
+ghost use Prim.Native.Nat.{_+_, _≤_};
 ghost use lib.Ieee.{Float};
-ghost use lib.ListN.{length, drop};
+ghost use lib.ListN.{length};
+ghost use lib.Seq.{slice};
 ghost use Rattle.line.specs.Held.{holds, ran};
-ghost use Rattle.reverb.specs.Tuning.{combTunings, allPassTunings, tuningFloats};
-ghost use Rattle.reverb.specs.Reverb.{heard, passesOf, combsOf, widthOf, reverbOf};
-use crate::tuning::line_of;
-use crate::tuning::reverb_floats;
-use crate::tuning::side_floats;
+ghost use Rattle.tuning.specs.Tuning.{reverbLines, total};
+ghost use Rattle.reverb.specs.Reverb.{heard, combOf, passOf, linesInTurn, widthOf, reverbOf};
 use frame::Frame;
 use line::all_pass;
 use line::comb;
+use tuning::floats_from;
+use tuning::reverb_floats;
+use tuning::reverb_line;
 
-pub mod tuning;
-
-// The all-passes from the kth on, one after another.
+// The all-passes from line k up to line `end`, one after another.
 fn passes(
     k: usize,
-    spread: u32,
+    end: usize,
     rate: u32,
     input: f32,
     store: &mut [f32],
     positions: &mut [usize],
 ) -> f32
-    requires { ⌜ (k ≤ 4) × (spread ≤ 23) × (tuningFloats spread rate (drop k allPassTunings) ≤ length (now store)) × (4 - k ≤ length (now positions)) ⌝ }
+    requires { ⌜ (k ≤ end) × (end ≤ 24) × (total (slice k end (reverbLines rate)) ≤ length (now store)) × (end ≤ k + length (now positions)) ⌝ }
     ensures { λ r. ⌜ ((floats : List Float) → heard r (holds (now (store .exit)) (now (positions .exit)) floats)
-        ≡ passesOf spread rate (drop k allPassTunings) input (holds (now (store .entry)) (now (positions .entry)) floats)) ⌝ }
+        ≡ linesInTurn 0 passOf heard (slice k end (reverbLines rate)) input (holds (now (store .entry)) (now (positions .entry)) floats)) ⌝ }
 {
-    if k == 4 {
+    if k == end {
         return input;
     }
-    let n = line_of(8 + k, spread, rate);
+    let n = reverb_line(k, rate);
     let passed = all_pass::process(&mut store[..n], positions[0], input);
     positions[0] = passed.at;
     passes(
         k + 1,
-        spread,
+        end,
         rate,
         passed.output,
         &mut store[n..],
@@ -47,10 +46,10 @@ fn passes(
     )
 }
 
-// The combs from the kth on, whose outputs are added to `sum`, and then the all-passes.
+// The combs from line k up to line `end`, whose outputs are added to `sum`, and then four all-passes.
 fn combs(
     k: usize,
-    spread: u32,
+    end: usize,
     rate: u32,
     feedback: f32,
     damping: f32,
@@ -60,14 +59,14 @@ fn combs(
     positions: &mut [usize],
     floats: &mut [f32],
 ) -> f32
-    requires { ⌜ (k ≤ 8) × (spread ≤ 23) × (tuningFloats spread rate (drop k combTunings) + tuningFloats spread rate allPassTunings ≤ length (now store)) × (12 - k ≤ length (now positions)) × (8 - k ≤ length (now floats)) ⌝ }
+    requires { ⌜ (k ≤ end) × (end + 4 ≤ 24) × (total (slice k end (reverbLines rate)) + total (slice end (end + 4) (reverbLines rate)) ≤ length (now store)) × (end + 4 ≤ k + length (now positions)) × (end ≤ k + length (now floats)) ⌝ }
     ensures { λ r. ⌜ heard r (holds (now (store .exit)) (now (positions .exit)) (now (floats .exit)))
-        ≡ combsOf spread rate feedback damping input (passesOf spread rate allPassTunings) (drop k combTunings) sum (holds (now (store .entry)) (now (positions .entry)) (now (floats .entry))) ⌝ }
+        ≡ linesInTurn 1 (combOf feedback damping input) (linesInTurn 0 passOf heard (slice end (end + 4) (reverbLines rate))) (slice k end (reverbLines rate)) sum (holds (now (store .entry)) (now (positions .entry)) (now (floats .entry))) ⌝ }
 {
-    if k == 8 {
-        return passes(0, spread, rate, sum, store, positions);
+    if k == end {
+        return passes(end, end + 4, rate, sum, store, positions);
     }
-    let n = line_of(k, spread, rate);
+    let n = reverb_line(k, rate);
     let combed = comb::process(
         &mut store[..n],
         positions[0],
@@ -80,7 +79,7 @@ fn combs(
     floats[0] = combed.filter_store;
     combs(
         k + 1,
-        spread,
+        end,
         rate,
         feedback,
         damping,
@@ -120,7 +119,8 @@ pub fn process(
     ensures { λ r. ⌜ ran r (holds (now (store .exit)) (now (positions .exit)) (now (floats .exit)))
         ≡ reverbOf rate feedback damping «stereo_width» mix (ran input (holds (now (store .entry)) (now (positions .entry)) (now (floats .entry)))) ⌝ }
 {
-    if store.len() < reverb_floats(rate) {
+    let needed = reverb_floats(rate);
+    if store.len() < needed {
         return input;
     }
     if positions.len() < 24 {
@@ -130,10 +130,10 @@ pub fn process(
         return input;
     }
     let mono = (input.left + input.right) * 0.015;
-    let n = side_floats(0, rate);
+    let n = needed - floats_from(12, rate);
     let left = combs(
         0,
-        0,
+        8,
         rate,
         feedback,
         damping,
@@ -144,8 +144,8 @@ pub fn process(
         &mut floats[..8],
     );
     let right = combs(
-        0,
-        23,
+        12,
+        20,
         rate,
         feedback,
         damping,

@@ -7,7 +7,7 @@ ghost use Rattle.stage.specs.Kind.{nextPlace};
 ghost use Rattle.stage.specs.Layout.{floatsOf, startsOf, sizeOf};
 use crate::kind::Stage;
 use crate::kind::owned;
-use reverb::tuning::reverb_floats;
+use tuning::reverb_floats;
 
 // The floats of the stage's own lines.
 pub fn floats_of(rate: u32, stage: Stage) -> usize

@@ -1,10 +1,10 @@
 // Whether a place's remembered positions are on the stage's lines.
 ghost use mathlib.Core.Path.{_≡_};
-ghost use Rattle.reverb.specs.Tuning.{reverbLines};
+ghost use Rattle.tuning.specs.Tuning.{reverbLines};
 ghost use Rattle.stage.specs.Lines.{lostFrom, lostOf};
 use crate::kind::Stage;
 use crate::layout::number_at;
-use reverb::tuning::reverb_line;
+use tuning::reverb_line;
 
 fn reverb_lost(rate: u32, positions: &[usize]) -> bool
     ensures { λ r. ⌜ r ≡ lostFrom (reverbLines rate) (now (positions .entry)) ⌝ }

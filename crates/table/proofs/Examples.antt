@@ -10,7 +10,7 @@ use lib.ListN.{length, replicate}
 use lib.Ieee.{Float, fin, le}
 use Rattle.float.specs.Literal.{literal}
 use Rattle.float.specs.Finite.{finiteOf}
-use Rattle.reverb.specs.Tuning.{reverbFloats, reverbLines}
+use Rattle.tuning.specs.Tuning.{reverbFloats, reverbLines}
 use Rattle.stage.specs.declared.kind.Stage.{Stage}
 use Rattle.stage.specs.declared.kind.Stage.the-variants.{VolumeControl, Reverb, Delay}
 use Rattle.stage.specs.First.{firstFrom}

@@ -11,7 +11,7 @@ use lib.Seq.{getD-take, getD-drop}
 use lib.Ieee.{Float, nan}
 use borrow.Author.Tests.{ltb-true, leb-true, lt-ltb, le-leb, not-true}
 use Rattle.float.specs.Finite.{finiteOf}
-use Rattle.reverb.proofs.Tunings.{lines-length}
+use Rattle.tuning.proofs.Tunings.{lines-length}
 use Rattle.order.specs.Stretch.{part}
 use Rattle.stage.specs.declared.kind.Stage.{Stage}
 use Rattle.stage.specs.declared.kind.Stage.the-variants.{VolumeControl, PanningControl, Distortion, Filter, EqFilter, Reverb, Delay}

@@ -9,26 +9,17 @@ use Rattle.filters.proofs.eq_filter.process.Tie as tie
 calculate-requires : tie.Need-calculate-requires
 calculate-requires c κs = search needs
 
+run-narrowed-requires : tie.Need-run-narrowed-requires
+run-narrowed-requires c κs = search needs
+
 as-f32-requires : tie.Need-as-f32-requires
 as-f32-requires c κs = search needs
-
-as-f32-requires-2 : tie.Need-as-f32-requires-2
-as-f32-requires-2 c κs = search needs
-
-as-f32-requires-3 : tie.Need-as-f32-requires-3
-as-f32-requires-3 c κs = search needs
-
-run-requires : tie.Need-run-requires
-run-requires c κs = search needs
-
-as-f32-requires-4 : tie.Need-as-f32-requires-4
-as-f32-requires-4 c κs = search needs
 
 mul-requires : tie.Need-mul-requires
 mul-requires c κs = search needs
 
-as-f32-requires-5 : tie.Need-as-f32-requires-5
-as-f32-requires-5 c κs = search needs
+as-f32-requires-2 : tie.Need-as-f32-requires-2
+as-f32-requires-2 c κs = search needs
 
 mul-requires-2 : tie.Need-mul-requires-2
 mul-requires-2 c κs = search needs
@@ -36,8 +27,8 @@ mul-requires-2 c κs = search needs
 add-requires : tie.Need-add-requires
 add-requires c κs = search needs
 
-as-f32-requires-6 : tie.Need-as-f32-requires-6
-as-f32-requires-6 c κs = search needs
+as-f32-requires-3 : tie.Need-as-f32-requires-3
+as-f32-requires-3 c κs = search needs
 
 mul-requires-3 : tie.Need-mul-requires-3
 mul-requires-3 c κs = search needs
@@ -49,22 +40,18 @@ returns : tie.Need-returns
 unfolding eqOf
 returns c =
     let stepped = c .before .before .before .before .before .before .before .before .before .before .before .before in
-    let calculated = stepped .before .before .before .before .before .before in
-    let start = calculated .before in
+    let start = stepped .before .before in
     rw (
       c .add2 .ensures,
       c .before .mul3 .ensures,
-      c .before .before .as-f326 .ensures,
+      c .before .before .as-f323 .ensures,
       c .before .before .before .add .ensures,
       c .before .before .before .before .mul2 .ensures,
-      c .before .before .before .before .before .as-f325 .ensures,
+      c .before .before .before .before .before .as-f322 .ensures,
       c .before .before .before .before .before .before .mul .ensures,
-      c .before .before .before .before .before .before .before .as-f324 .ensures,
-      stepped .run .ensures,
-      stepped .before .as-f323 .ensures,
-      stepped .before .before .as-f322 .ensures,
-      stepped .before .before .before .as-f32 .ensures,
-      calculated .calculate .ensures,
+      c .before .before .before .before .before .before .before .as-f32 .ensures,
+      stepped .run-narrowed .ensures,
+      stepped .before .calculate .ensures,
       toZ-ofZ w32 (start .args .gain) (start .fits .gain),
     )
 
@@ -73,16 +60,13 @@ process-spec =
     tie.close
     (tie.spec
     calculate-requires
+    run-narrowed-requires
     as-f32-requires
-    as-f32-requires-2
-    as-f32-requires-3
-    run-requires
-    as-f32-requires-4
     mul-requires
-    as-f32-requires-5
+    as-f32-requires-2
     mul-requires-2
     add-requires
-    as-f32-requires-6
+    as-f32-requires-3
     mul-requires-3
     add-requires-2
     returns)

@@ -12,20 +12,11 @@ clamp-unit-f64-requires c κs = search needs
 weigh-requires : tie.Need-weigh-requires
 weigh-requires c κs = search needs
 
+run-narrowed-requires : tie.Need-run-narrowed-requires
+run-narrowed-requires c κs = search needs
+
 as-f32-requires : tie.Need-as-f32-requires
 as-f32-requires c κs = search needs
-
-as-f32-requires-2 : tie.Need-as-f32-requires-2
-as-f32-requires-2 c κs = search needs
-
-as-f32-requires-3 : tie.Need-as-f32-requires-3
-as-f32-requires-3 c κs = search needs
-
-run-requires : tie.Need-run-requires
-run-requires c κs = search needs
-
-as-f32-requires-4 : tie.Need-as-f32-requires-4
-as-f32-requires-4 c κs = search needs
 
 output-requires : tie.Need-output-requires
 output-requires c κs = search needs
@@ -37,17 +28,13 @@ returns : tie.Need-returns
 unfolding filterOf literal round ofBits
 returns c =
     let stepped = c .before .before .before .before .before in
-    let weighed = stepped .before .before .before .before .before .before in
     rw (
       c .mixed .ensures,
       c .before .output .ensures,
-      c .before .before .as-f324 .ensures,
-      stepped .run .ensures,
-      stepped .before .as-f323 .ensures,
-      stepped .before .before .as-f322 .ensures,
-      stepped .before .before .before .as-f32 .ensures,
-      weighed .weigh .ensures,
-      weighed .before .clamp-unit-f64 .ensures,
+      c .before .before .as-f32 .ensures,
+      stepped .run-narrowed .ensures,
+      stepped .before .weigh .ensures,
+      stepped .before .before .clamp-unit-f64 .ensures,
     )
 
 pub process-spec : {M : Type 1} → statement M
@@ -56,11 +43,8 @@ process-spec =
     (tie.spec
     clamp-unit-f64-requires
     weigh-requires
+    run-narrowed-requires
     as-f32-requires
-    as-f32-requires-2
-    as-f32-requires-3
-    run-requires
-    as-f32-requires-4
     output-requires
     mixed-requires
     returns)

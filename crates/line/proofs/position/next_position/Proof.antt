@@ -1,4 +1,4 @@
-use Prim.Native.Nat.{_+_, _≤_}
+use Prim.Native.Nat.{_+_}
 use native.Mathlib.Omega.{arith}
 use borrow.Author.Needs.{needs}
 use borrow.Author.Tests.{lt-ltb, le-ltb}
@@ -14,17 +14,15 @@ add-result c = search needs
 
 returns : tie.Need-returns
 unfolding nextPosition
-returns c = simp (lt-ltb _ _ (c .if2 .taken))
+returns c = let a = c .before .before .args in simp (lt-ltb (a .at + 1) (a .length) (omega arith))
 
 returns-2 : tie.Need-returns-2
 unfolding nextPosition
-returns-2 c = simp (le-ltb _ _ (c .if2 .left))
+returns-2 c = let a = c .before .before .args in simp (le-ltb (a .at + 1) (a .length) (omega arith))
 
 returns-3 : tie.Need-returns-3
 unfolding nextPosition
-returns-3 c =
-    let h : c .before .args .length ≤ c .before .args .at + 1 = omega arith in
-    simp (le-ltb _ _ h)
+returns-3 c = let a = c .before .args in simp (le-ltb (a .at + 1) (a .length) (omega arith))
 
 pub next-position-spec : {M : Type 1} → statement M
 next-position-spec = tie.close (tie.spec add-if2 add-result returns returns-2 returns-3)

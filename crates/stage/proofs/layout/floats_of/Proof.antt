@@ -1,6 +1,6 @@
 -- `layout::floats_of` meets its contract: in each arm the stage is known. A u32 rate keeps a reverb's 24 lines below the bound. Assumes nothing.
 use native.Mathlib.Omega.{arith}
-use Rattle.reverb.proofs.Tunings.{reverb-within}
+use Rattle.tuning.proofs.Tunings.{reverb-within}
 use Rattle.stage.specs.Layout.{floatsOf}
 use borrow.Author.Needs.{needs}
 use Rattle.stage.proofs.layout.floats_of.Statement.{statement}

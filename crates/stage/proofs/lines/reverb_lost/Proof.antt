@@ -9,8 +9,8 @@ use lib.ListN.{length, getD}
 use borrow.Author.Needs.{needs}
 use borrow.Author.Count.{below-more}
 use borrow.Author.Tests.{le-leb, lt-leb}
-use Rattle.reverb.specs.Tuning.{reverbLines}
-use Rattle.reverb.proofs.Tunings.{lines-length}
+use Rattle.tuning.specs.Tuning.{reverbLines}
+use Rattle.tuning.proofs.Tunings.{lines-length}
 use Rattle.stage.specs.Lines.{lostFrom}
 use Rattle.stage.proofs.Firsts.{some-hit, some-none}
 use Rattle.stage.proofs.lines.reverb_lost.Statement.{statement}

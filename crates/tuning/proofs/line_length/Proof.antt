@@ -2,9 +2,9 @@ use mathlib.Core.Path.{refl}
 use Prim.Native.Nat.{_≤_}
 use native.Mathlib.Nat.{mul-le-mul}
 use native.Mathlib.Omega.{arith}
-use Rattle.reverb.specs.Tuning.{lengthOf}
-use Rattle.reverb.proofs.tuning.line_length.Statement.{statement}
-use Rattle.reverb.proofs.tuning.line_length.Tie as tie
+use Rattle.tuning.specs.Tuning.{lengthOf}
+use Rattle.tuning.proofs.line_length.Statement.{statement}
+use Rattle.tuning.proofs.line_length.Tie as tie
 
 -- both factors are below 2^32
 mul-result : tie.Need-mul-result

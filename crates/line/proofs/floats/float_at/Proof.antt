@@ -3,8 +3,8 @@ use native.Mathlib.Omega.{arith}
 use borrow.Author.Needs.{needs}
 use lib.Ieee.{nan, div, ofBits}
 use lib.ListN.{List·getD-eq-default}
-use Rattle.line.proofs.frames.float_at.Statement.{statement}
-use Rattle.line.proofs.frames.float_at.Tie as tie
+use Rattle.line.proofs.floats.float_at.Statement.{statement}
+use Rattle.line.proofs.floats.float_at.Tie as tie
 
 mul-result : tie.Need-mul-result
 mul-result c = search needs

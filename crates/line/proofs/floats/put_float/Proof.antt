@@ -2,8 +2,8 @@ use denote.Ref.{now}
 use native.Mathlib.Omega.{arith}
 use borrow.Author.Needs.{needs}
 use lib.Seq.{set-out}
-use Rattle.line.proofs.frames.put_float.Statement.{statement}
-use Rattle.line.proofs.frames.put_float.Tie as tie
+use Rattle.line.proofs.floats.put_float.Statement.{statement}
+use Rattle.line.proofs.floats.put_float.Tie as tie
 
 mul-line : tie.Need-mul-line
 mul-line c = search needs

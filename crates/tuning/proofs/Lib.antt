@@ -1,0 +1,2 @@
+pub mod Tunings
+pub mod OneOutcome

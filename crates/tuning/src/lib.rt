@@ -1,0 +1,58 @@
+// How long a reverb's lines are: Freeverb's numbers for 44,100 Hz, scaled to the rate. The right
+// side's lines come after the left side's, and have a spread of 23 more.
+ghost use mathlib.Core.Path.{_≡_};
+ghost use lib.ListN.{getD, drop};
+ghost use Rattle.tuning.specs.Tuning.{lengthOf, reverbLines, total, reverbFloats};
+
+// A side's eight combs, then its four all-passes.
+const TUNINGS: [u32; 12] = [
+    1116,
+    1188,
+    1277,
+    1356,
+    1422,
+    1491,
+    1557,
+    1617,
+    556,
+    441,
+    341,
+    225,
+];
+
+// The floats of a line that has `tuning` of them at 44,100 Hz.
+pub fn line_length(tuning: u32, rate: u32) -> usize
+    ensures { λ r. ⌜ r ≡ lengthOf tuning rate ⌝ }
+{
+    ((tuning as u64) * (rate as u64) / 44100) as usize
+}
+
+// The floats of line k of a reverb's 24, and 0 past the last.
+pub fn reverb_line(k: usize, rate: u32) -> usize
+    ensures { λ r. ⌜ r ≡ getD (reverbLines rate) k 0 ⌝ }
+{
+    if k < 12 {
+        return line_length(TUNINGS[k], rate);
+    }
+    if k < 24 {
+        return line_length(TUNINGS[k - 12] + 23, rate);
+    }
+    0
+}
+
+// The floats of the lines from line k on, and 0 past the last.
+pub fn floats_from(k: usize, rate: u32) -> usize
+    ensures { λ r. ⌜ r ≡ total (drop k (reverbLines rate)) ⌝ }
+{
+    if 24 <= k {
+        return 0;
+    }
+    reverb_line(k, rate) + floats_from(k + 1, rate)
+}
+
+// The floats that a reverb needs.
+pub fn reverb_floats(rate: u32) -> usize
+    ensures { λ r. ⌜ r ≡ reverbFloats rate ⌝ }
+{
+    floats_from(0, rate)
+}
