@@ -2,12 +2,17 @@
 use mathlib.Core.Path.{_≡_, refl, sym, ap, _∙_}
 use mathlib.Core.List.{List, [], _∷_, _++_, append-assoc}
 use Prim.Native.Nat.{ℕ, zero, suc, _+_, _*_, _<_}
+use native.Mathlib.Nat.{mul-suc}
 use native.Mathlib.Numerals.{add-one}
 use native.Mathlib.Omega.{arith}
 use lib.Ieee.{Float, nan}
 use lib.ListN.{length, set, drop, getD, length-append}
 use lib.Seq.{drop-cons, set-at}
 use Rattle.wav.specs.Frames.{sampleAt, samplesOf, lowOf, highOf, bytesOf}
+
+-- the place after sample n's two bytes
+pub next-pair : (n : ℕ) → suc (suc (2 * n)) ≡ 2 * suc n
+next-pair n = omega arith
 
 module _ (bytes : List ℕ) where
   pub samples-length : (n : ℕ) → length (samplesOf bytes n) ≡ n
@@ -31,10 +36,7 @@ module _ (samples : List Float) where
   bytes-length : (n : ℕ) → length (bytesOf samples n) ≡ 2 * n
   unfolding bytesOf
   bytes-length zero = refl
-  bytes-length (suc n) = length-append (bytesOf samples n) (lowOf (getD samples n nan) ∷ highOf (getD samples n nan) ∷ []) ∙ ap (λ (k : ℕ). k + 2) (bytes-length n) ∙ two-more n
-    where
-      two-more : (n : ℕ) → 2 * n + 2 ≡ 2 * suc n
-      two-more n = omega arith
+  bytes-length (suc n) = length-append (bytesOf samples n) (lowOf (getD samples n nan) ∷ highOf (getD samples n nan) ∷ []) ∙ ap (λ (k : ℕ). k + 2) (bytes-length n) ∙ sym (mul-suc 2 n)
 
   pub bytes-none : (ys : List ℕ) → ys ≡ bytesOf samples 0 ++ drop (2 * 0) ys
   unfolding bytesOf
@@ -52,8 +54,5 @@ module _ (samples : List Float) where
       ∙ set-at (l ++ (lowOf x ∷ [])) (getD ys (suc (2 * i)) 0) (drop (suc (suc (2 * i))) ys) (highOf x) (2 * i + 1) (length-append l (lowOf x ∷ []) ∙ ap (λ (k : ℕ). k + 1) (bytes-length i))
       ∙ append-assoc l (lowOf x ∷ []) (highOf x ∷ drop (suc (suc (2 * i))) ys)
       ∙ sym (append-assoc l (lowOf x ∷ highOf x ∷ []) (drop (suc (suc (2 * i))) ys))
-      ∙ ap (λ (n : ℕ). bytesOf samples (suc i) ++ drop n ys) (two-more i)
+      ∙ ap (λ (n : ℕ). bytesOf samples (suc i) ++ drop n ys) (next-pair i)
       ∙ ap (λ (n : ℕ). bytesOf samples n ++ drop (2 * n) ys) (sym (add-one i))
-    where
-      two-more : (n : ℕ) → suc (suc (2 * n)) ≡ 2 * suc n
-      two-more n = omega arith

@@ -16,7 +16,7 @@ use Rattle.wav_bytes.specs.Bytes.{twoAt}
 use Rattle.wav.specs.Sample.{sampleOut}
 use Rattle.wav.specs.Pcm.{signedOf, codeOf}
 use Rattle.wav.specs.Frames.{sampleAt, samplesOf, lowOf, highOf, bytesOf}
-use Rattle.wav.proofs.Blocks.{samples-length}
+use Rattle.wav.proofs.Blocks.{samples-length, next-pair}
 use Rattle.wav.proofs.Signed as sg
 use Rattle.wav_evidence.proofs.Exact.{there-and-back}
 
@@ -63,11 +63,8 @@ module _ (bytes : List ℕ) (small : (i : ℕ) → getD bytes i 0 < 256) where
       let b = bytes-at n in
       rw (bytes-back m n (le-of-lt k) h, x, b .0, b .1)
       (sym
-      (ap (λ (i : ℕ). take i bytes) (two-more n)
+      (ap (λ (i : ℕ). take i bytes) (sym (next-pair n))
       ∙ take-suc bytes (suc (2 * n)) 0 (omega arith)
       ∙ ap (λ (l : List ℕ). l ++ (getD bytes (suc (2 * n)) 0 ∷ [])) (take-suc bytes (2 * n) 0 (omega arith))
       ∙ append-assoc (take (2 * n) bytes) (getD bytes (2 * n) 0 ∷ []) (getD bytes (suc (2 * n)) 0 ∷ [])
       ∙ ap (λ (i : ℕ). take (2 * n) bytes ++ (getD bytes (2 * n) 0 ∷ getD bytes i 0 ∷ [])) (sym (add-one (2 * n)))))
-    where
-      two-more : (n : ℕ) → 2 * suc n ≡ suc (suc (2 * n))
-      two-more n = omega arith
