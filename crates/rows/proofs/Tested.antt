@@ -10,14 +10,14 @@ pub record Gives {A : Type 0} (rs : List (Row A)) (other answer : A) : Type 0 wh
 
 module _ {A : Type 0} {other answer : A} where
   module _ {r : Row A} {rs : List (Row A)} (g : Gives (r ∷ rs) other answer) where
-    pub hit : r .applies ≡ true → r .answer ≡ answer
+    pub row-hit : r .applies ≡ true → r .answer ≡ answer
     unfolding firstRow
-    hit e = rw e at (g .same)
+    row-hit e = rw e at (g .same)
 
-    pub pass : r .applies ≡ false → Gives rs other answer
+    pub row-pass : r .applies ≡ false → Gives rs other answer
     unfolding firstRow
-    pass e = record { same = rw e at (g .same) }
+    row-pass e = record { same = rw e at (g .same) }
 
-  pub none : Gives [] other answer → other ≡ answer
+  pub row-none : Gives [] other answer → other ≡ answer
   unfolding firstRow
-  none g = g .same
+  row-none g = g .same

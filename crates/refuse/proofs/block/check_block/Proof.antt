@@ -6,7 +6,7 @@ use lib.ListN.{length, drop}
 use borrow.Author.Needs.{needs}
 use borrow.Author.Tests.{lt-ltb, le-ltb, eq-eqb, ne-eqb}
 use denote.Ref.{now}
-use Rattle.rows.proofs.Tested.{Gives, hit, pass, none}
+use Rattle.rows.proofs.Tested.{Gives, row-hit, row-pass, row-none}
 use Rattle.stage.specs.First.{firstOf}
 use Rattle.answer.specs.declared.Answer.the-variants.{Accepted, Position, Progress, Sample, Entry}
 use Rattle.tops.specs.Tops.{topsOf}
@@ -40,24 +40,24 @@ entry c = c .before .before .before .before
 returns : tie.Need-returns
 returns c =
     let lost = c .before .first-lost .ensures in
-    ap Position lost ∙ hit (past-none (entry (c .before))) (less-so lost refl (c .if1 .taken))
+    ap Position lost ∙ row-hit (past-none (entry (c .before))) (less-so lost refl (c .if1 .taken))
 
 past-lost : (c : tie.Else1) → Past 1 (entry (c .before))
-past-lost c = pass (past-none (entry (c .before))) (less-not (c .before .first-lost .ensures) refl (c .if1 .left))
+past-lost c = row-pass (past-none (entry (c .before))) (less-not (c .before .first-lost .ensures) refl (c .if1 .left))
 
 -- ---- 7 and 8
 
 returns-2 : tie.Need-returns-2
-returns-2 c = hit (past-lost (c .before)) (eq-eqb _ _ (c .if2 .taken))
+returns-2 c = row-hit (past-lost (c .before)) (eq-eqb _ _ (c .if2 .taken))
 
 past-odd : (c : tie.Else2) → Past 2 (entry (c .before .before))
-past-odd c = pass (past-lost (c .before)) (ne-eqb _ _ (c .if2 .left))
+past-odd c = row-pass (past-lost (c .before)) (ne-eqb _ _ (c .if2 .left))
 
 returns-3 : tie.Need-returns-3
-returns-3 c = hit (past-odd (c .before)) (lt-ltb _ _ (c .if3 .taken))
+returns-3 c = row-hit (past-odd (c .before)) (lt-ltb _ _ (c .if3 .taken))
 
 past-long : (c : tie.Else3) → Past 3 (entry (c .before .before .before))
-past-long c = pass (past-odd (c .before)) (le-ltb _ _ (c .if3 .left))
+past-long c = row-pass (past-odd (c .before)) (le-ltb _ _ (c .if3 .left))
 
 -- ---- 9: what is found, of the definition's number of top stages
 
@@ -76,10 +76,10 @@ ahead c = c .first-ahead .ensures ∙ ap (firstOf _) (tops (c .before))
 returns-4 : tie.Need-returns-4
 returns-4 c =
     let found = ahead (c .before) in
-    ap Progress found ∙ hit (past-long (c .before .before .before)) (less-so found (tops (c .before .before)) (c .if4 .taken))
+    ap Progress found ∙ row-hit (past-long (c .before .before .before)) (less-so found (tops (c .before .before)) (c .if4 .taken))
 
 past-ahead : (c : tie.Else4) → Past 4 (entry (c .before .before .before .before .before .before))
-past-ahead c = pass (past-long (c .before .before .before)) (less-not (ahead (c .before)) (tops (c .before .before)) (c .if4 .left))
+past-ahead c = row-pass (past-long (c .before .before .before)) (less-not (ahead (c .before)) (tops (c .before .before)) (c .if4 .left))
 
 -- ---- 10
 
@@ -103,10 +103,10 @@ bad c =
 returns-5 : tie.Need-returns-5
 returns-5 c =
     let found = bad (c .before) in
-    ap Sample found ∙ hit (past-ahead (c .before .before .before)) (less-so found refl (c .if5 .taken))
+    ap Sample found ∙ row-hit (past-ahead (c .before .before .before)) (less-so found refl (c .if5 .taken))
 
 past-bad : (c : tie.Else5) → Past 5 (entry (c .before .before .before .before .before .before .before .before .before))
-past-bad c = pass (past-ahead (c .before .before .before)) (less-not (bad (c .before)) refl (c .if5 .left))
+past-bad c = row-pass (past-ahead (c .before .before .before)) (less-not (bad (c .before)) refl (c .if5 .left))
 
 -- ---- 11
 
@@ -125,10 +125,10 @@ stuck c =
 returns-6 : tie.Need-returns-6
 returns-6 c =
     let found = stuck (c .before) in
-    ap Entry found ∙ hit (past-bad (c .before .before)) (less-so found refl (c .if6 .taken))
+    ap Entry found ∙ row-hit (past-bad (c .before .before)) (less-so found refl (c .if6 .taken))
 
 returns-7 : tie.Need-returns-7
-returns-7 c = none (pass (past-bad (c .before .before)) (less-not (stuck (c .before)) refl (c .if6 .left)))
+returns-7 c = row-none (row-pass (past-bad (c .before .before)) (less-not (stuck (c .before)) refl (c .if6 .left)))
 
 pub check-block-spec : {M : Type 1} → statement M
 check-block-spec =

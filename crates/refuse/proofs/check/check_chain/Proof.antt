@@ -5,7 +5,7 @@ use Prim.Native.Nat.{ℕ}
 use lib.ListN.{getD, drop}
 use borrow.Author.Needs.{needs}
 use borrow.Author.Tests.{lt-ltb, le-ltb}
-use Rattle.rows.proofs.Tested.{Gives, hit, pass, none}
+use Rattle.rows.proofs.Tested.{Gives, row-hit, row-pass, row-none}
 use Rattle.stage.specs.Layout.{startOf}
 use Rattle.stage.proofs.Starts.{starts-at}
 use Rattle.answer.specs.declared.Answer.the-variants.{Accepted, Shape, Setting, Store}
@@ -23,19 +23,19 @@ unfolding chainAnswer
 past-none z = record { same = refl }
 
 returns : tie.Need-returns
-returns c = hit (past-none (c .before)) (rw (lt-ltb _ _ (c .if1 .taken)))
+returns c = row-hit (past-none (c .before)) (rw (lt-ltb _ _ (c .if1 .taken)))
 
 returns-2 : tie.Need-returns-2
-returns-2 c = hit (past-none (c .before .before)) (rw (lt-ltb _ _ (c .if2 .taken), or-true))
+returns-2 c = row-hit (past-none (c .before .before)) (rw (lt-ltb _ _ (c .if2 .taken), or-true))
 
 past-rate : (c : tie.Else2) → Past 1 (c .before .before)
-past-rate c = pass (past-none (c .before .before)) (rw (le-ltb _ _ (c .before .if1 .left), le-ltb _ _ (c .if2 .left)))
+past-rate c = row-pass (past-none (c .before .before)) (rw (le-ltb _ _ (c .before .if1 .left), le-ltb _ _ (c .if2 .left)))
 
 returns-3 : tie.Need-returns-3
-returns-3 c = hit (past-rate (c .before)) (lt-ltb _ _ (c .if3 .taken))
+returns-3 c = row-hit (past-rate (c .before)) (lt-ltb _ _ (c .if3 .taken))
 
 past-stages : (c : tie.Else3) → Past 2 (c .before .before .before)
-past-stages c = pass (past-rate (c .before)) (le-ltb _ _ (c .if3 .left))
+past-stages c = row-pass (past-rate (c .before)) (le-ltb _ _ (c .if3 .left))
 
 first-faulty-requires : tie.Need-first-faulty-requires
 first-faulty-requires c κs = search needs
@@ -43,10 +43,10 @@ first-faulty-requires c κs = search needs
 returns-4 : tie.Need-returns-4
 returns-4 c =
     let faulty = c .before .first-faulty .ensures in
-    ap Shape faulty ∙ hit (past-stages (c .before .before)) (less-so faulty refl (c .if4 .taken))
+    ap Shape faulty ∙ row-hit (past-stages (c .before .before)) (less-so faulty refl (c .if4 .taken))
 
 past-shape : (c : tie.Else4) → Past 3 (c .before .before .before .before .before)
-past-shape c = pass (past-stages (c .before .before)) (less-not (c .before .first-faulty .ensures) refl (c .if4 .left))
+past-shape c = row-pass (past-stages (c .before .before)) (less-not (c .before .first-faulty .ensures) refl (c .if4 .left))
 
 first-out-of-range-requires : tie.Need-first-out-of-range-requires
 first-out-of-range-requires c κs = search needs
@@ -54,10 +54,10 @@ first-out-of-range-requires c κs = search needs
 returns-5 : tie.Need-returns-5
 returns-5 c =
     let out = c .before .first-out-of-range .ensures in
-    ap Setting out ∙ hit (past-shape (c .before .before)) (less-so out refl (c .if5 .taken))
+    ap Setting out ∙ row-hit (past-shape (c .before .before)) (less-so out refl (c .if5 .taken))
 
 past-setting : (c : tie.Else5) → Past 4 (c .before .before .before .before .before .before .before)
-past-setting c = pass (past-shape (c .before .before)) (less-not (c .before .first-out-of-range .ensures) refl (c .if5 .left))
+past-setting c = row-pass (past-shape (c .before .before)) (less-not (c .before .first-out-of-range .ensures) refl (c .if5 .left))
 
 starts-of-requires : tie.Need-starts-of-requires
 starts-of-requires c κs = search needs
@@ -72,10 +72,10 @@ needed : (c : tie.After-starts-of) → let a = c .before .before .before .before
 needed c = starts-at _ _ (c .starts-of .ensures) _ (c .before .before .before .before .before .if3 .left)
 
 returns-6 : tie.Need-returns-6
-returns-6 c = ap Store (needed (c .before)) ∙ hit (past-setting (c .before .before)) (less-so refl (needed (c .before)) (c .if6 .taken))
+returns-6 c = ap Store (needed (c .before)) ∙ row-hit (past-setting (c .before .before)) (less-so refl (needed (c .before)) (c .if6 .taken))
 
 returns-7 : tie.Need-returns-7
-returns-7 c = none (pass (past-setting (c .before .before)) (less-not refl (needed (c .before)) (c .if6 .left)))
+returns-7 c = row-none (row-pass (past-setting (c .before .before)) (less-not refl (needed (c .before)) (c .if6 .left)))
 
 pub check-chain-spec : {M : Type 1} → statement M
 check-chain-spec =
