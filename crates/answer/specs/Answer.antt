@@ -1,11 +1,12 @@
 -- The answers, each with document 01's number and place. Definitions only.
-use mathlib.Core.Bool.{Bool, true, false}
+use mathlib.Core.Bool.{Bool}
 use Prim.Native.Nat.{ℕ}
+use lib.Dec.{eqb}
 use Rattle.answer.specs.declared.Answer.{Answer}
 use Rattle.answer.specs.declared.Answer.the-variants.{Accepted, Rate, Stages, Shape, Setting, Store, Position, Samples, Frames, Progress, Sample, Entry}
 
 -- document 01's number; 0 for an accepted call
-unfoldable pub numberOf : Answer → ℕ
+abbrev pub numberOf : Answer → ℕ
 numberOf Accepted = 0
 numberOf Rate = 1
 numberOf Stages = 2
@@ -20,7 +21,7 @@ numberOf (Sample at) = 10
 numberOf (Entry at) = 11
 
 -- and its place
-unfoldable pub placeOf : Answer → ℕ
+abbrev pub placeOf : Answer → ℕ
 placeOf Accepted = 0
 placeOf Rate = 0
 placeOf Stages = 0
@@ -34,16 +35,6 @@ placeOf (Progress at) = at
 placeOf (Sample at) = at
 placeOf (Entry at) = at
 
-unfoldable pub acceptedOf : Answer → Bool
-acceptedOf Accepted = true
-acceptedOf Rate = false
-acceptedOf Stages = false
-acceptedOf (Shape at) = false
-acceptedOf (Setting at) = false
-acceptedOf (Store needed) = false
-acceptedOf (Position at) = false
-acceptedOf Samples = false
-acceptedOf Frames = false
-acceptedOf (Progress at) = false
-acceptedOf (Sample at) = false
-acceptedOf (Entry at) = false
+-- a call is accepted whose answer is no refusal
+abbrev pub acceptedOf : Answer → Bool
+acceptedOf answer = eqb (numberOf answer) 0

@@ -8,16 +8,16 @@ use lib.IntN.{ℤ}
 use lib.Ieee.{Float}
 use lib.ListN.{length, length-set}
 use Rattle.integrators.specs.declared.Integrators.{Integrators}
-use Rattle.filters.specs.declared.filter.FilterMode.{FilterMode}
-use Rattle.filters.specs.declared.eq_filter.EqFilterKind.{EqFilterKind}
-use Rattle.line.specs.Held.{front, Ran}
-use Rattle.line.proofs.Keeps.{Keeps, same-refl, cond-keeps, joined-keeps, frame-in-keeps}
+use Rattle.integrators.specs.declared.Filtered.{Filtered}
+use Rattle.frame.specs.declared.Frame.{Frame}
+use Rattle.line.specs.Held.{Held, front, Ran}
+use Rattle.line.proofs.Keeps.{Keeps, Same, same-refl, cond-keeps, joined-keeps, frame-in-keeps}
 use Rattle.reverb.proofs.Keeps.{reverb-keeps}
 use Rattle.stage.specs.declared.kind.Stage.{Stage}
 use Rattle.stage.specs.declared.kind.Stage.the-variants.{VolumeControl, PanningControl, Distortion, Filter, EqFilter, Reverb, Delay}
 use Rattle.stage.specs.Kind.{stageAt}
 use Rattle.step.specs.Memory.{remember}
-use Rattle.step.specs.Step.{filterStage, eqStage, delayStage, stageStep, inTurn, spanOf, stepOf, processAt}
+use Rattle.step.specs.Step.{remembering, delayStage, stageStep, inTurn, spanOf, stepOf, processAt}
 use Rattle.step.proofs.Levels.{volume-is, panning-is, distortion-is, filter-is, eq-is, reverb-is, delay-is, step-is, span-zero, span-shallow, span-is, place-is}
 
 -- ---- a stage
@@ -26,13 +26,9 @@ pub remember-keeps : (memory : Integrators) (floats : List Float) → length (re
 unfolding remember
 remember-keeps memory floats = frame-in-keeps 9 (memory .ic2eq) _ ∙ frame-in-keeps 8 (memory .ic1eq) floats
 
-pub filter-keeps : (mode : FilterMode) (g resonance mix : Float) → Keeps (filterStage mode g resonance mix)
-unfolding filterStage
-filter-keeps mode g resonance mix r = record { store = refl; positions = refl; floats = remember-keeps _ _ }
-
-pub eq-keeps : (kind : EqFilterKind) (g : Float) (gain : ℤ) (q : Float) → Keeps (eqStage kind g gain q)
-unfolding eqStage
-eq-keeps kind g gain q r = record { store = refl; positions = refl; floats = remember-keeps _ _ }
+pub remembering-keeps : (f : Integrators → Frame → Filtered) → Keeps (remembering f)
+unfolding remembering
+remembering-keeps f r = record { store = refl; positions = refl; floats = remember-keeps _ _ }
 
 module _ (inner : Ran → Ran) (keeps : Keeps inner) where
   pub delay-keeps : (frames : ℕ) (feedback : ℤ) (mix : Float) → Keeps (delayStage frames feedback mix inner)
@@ -43,8 +39,8 @@ module _ (inner : Ran → Ran) (keeps : Keeps inner) where
   stage-keeps rate (VolumeControl volume) r = rw volume-is (same-refl (r .held))
   stage-keeps rate (PanningControl panning) r = rw panning-is (same-refl (r .held))
   stage-keeps rate (Distortion kind drive mix) r = rw distortion-is (same-refl (r .held))
-  stage-keeps rate (Filter mode g resonance mix) r = rw filter-is (filter-keeps mode g resonance mix r)
-  stage-keeps rate (EqFilter kind g gain q) r = rw eq-is (eq-keeps kind g gain q r)
+  stage-keeps rate (Filter mode g resonance mix) r = rw filter-is (remembering-keeps _ r)
+  stage-keeps rate (EqFilter kind g gain q) r = rw eq-is (remembering-keeps _ r)
   stage-keeps rate (Reverb feedback damping width mix) r = rw reverb-is (reverb-keeps rate feedback damping width mix r)
   stage-keeps rate (Delay frames feedback mix owned) r = rw delay-is (delay-keeps frames feedback mix r)
 

@@ -24,7 +24,8 @@ use Rattle.stage.specs.Kind.{stageAt, nextPlace}
 use Rattle.stage.specs.Layout.{sizeOf, frontPlaces, backPlaces}
 use Rattle.stage.specs.Lines.{linesOf}
 use Rattle.stage.proofs.Next.{next-le, next-more}
-use Rattle.step.specs.Step.{filterStage, eqStage, delayStage, stageStep, inTurn, spanOf, stepOf, processAt}
+use Rattle.stage.proofs.Firsts.{some-none, none-clear}
+use Rattle.step.specs.Step.{remembering, delayStage, stageStep, inTurn, spanOf, stepOf, processAt}
 use Rattle.step.proofs.Levels.{volume-is, panning-is, distortion-is, filter-is, eq-is, reverb-is, delay-is, step-is, span-zero, span-shallow, span-is}
 use Rattle.step.proofs.Steps.{place-inside, place-empty, place-past}
 use Rattle.apart.proofs.Keeps.{step-keeps}
@@ -130,7 +131,7 @@ module _ (rate : ℕ) (l : List Stage) where
           (stays rest (omega (arith, length-drop 24 ps)) (rw one at (good-back i (i + 1) e ps (omega arith) g)))
 
       stage-stays : (s : Stage) → stageAt l i ≡ s → Stays i e (stageStep rate inner s)
-      unfolding filterStage eqStage linesOf
+      unfolding remembering linesOf
       stage-stays (VolumeControl volume) q r n g = rw volume-is g
       stage-stays (PanningControl panning) q r n g = rw panning-is g
       stage-stays (Distortion kind drive mix) q r n g = rw distortion-is g

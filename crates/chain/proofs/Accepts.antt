@@ -14,9 +14,9 @@ use Rattle.order.proofs.Falls.{falls-from-next}
 use Rattle.order.specs.Claims.{Stepped}
 use Rattle.order.proofs.OneStep.{one-step, made}
 use Rattle.stage.specs.declared.kind.Stage.{Stage}
-use Rattle.refuse.specs.Tops.{topAt, topsOf}
+use Rattle.tops.specs.Tops.{topAt, topsOf}
 use Rattle.table.specs.Table.{tick, Clear}
-use Rattle.refuse.proofs.TopStages.{tops-le-16, top-le, top-next}
+use Rattle.tops.proofs.TopStages.{tops-le-16, top-le, top-next}
 use Rattle.chain.specs.Chain.{Room, chainOf, framesOf, Ready, Orderly, stepped, ordered}
 use Rattle.chain.specs.Demands.{Arrays}
 use Rattle.chain.proofs.Stretches.{replaced-same}

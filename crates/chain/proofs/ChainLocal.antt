@@ -2,7 +2,7 @@
 use mathlib.Core.Path.{_≡_, refl, _∙_}
 use mathlib.Core.Logic.{_≢_}
 use mathlib.Core.List.{List}
-use Prim.Native.Nat.{ℕ, suc, _≤_, _<_}
+use Prim.Native.Nat.{ℕ, suc, _<_}
 use native.Mathlib.Omega.{arith}
 use native.Mathlib.Decide.{decLt}
 use Rattle.line.specs.Held.{Held}
@@ -11,8 +11,8 @@ use Rattle.order.specs.Chain.{Local}
 use Rattle.stage.specs.declared.kind.Stage.{Stage}
 use Rattle.stage.specs.Layout.{startsOf}
 use Rattle.apart.proofs.Keeps.{place-keeps}
-use Rattle.refuse.specs.Tops.{topAt, topsOf}
-use Rattle.refuse.proofs.TopStages.{top-le, top-next, top-mono}
+use Rattle.tops.specs.Tops.{topAt}
+use Rattle.tops.proofs.TopStages.{top-le, top-next, top-mono}
 use Rattle.chain.specs.Chain.{stretch, replaced, Room, chainOf}
 use Rattle.chain.proofs.Stretches.{Fills, stretch-fills, replaced-room, stretch-later, stretch-earlier, replaced-comm}
 

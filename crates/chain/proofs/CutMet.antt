@@ -1,36 +1,28 @@
--- Demand 3's last sentence: a block may be cut at any frame, and both parts are accepted. Assumes nothing.
-use mathlib.Core.Path.{_≡_, refl, sym, ap, ap₂, _∙_, subst}
-use mathlib.Core.Bool.{Bool, true, false, cond}
+-- Demand 3's last sentence: a block may be cut at any frame, both parts are accepted, and `render` shows no cut. Assumes nothing.
+use mathlib.Core.Path.{_≡_, refl, sym, ap, _∙_, subst}
 use mathlib.Core.List.{List, [], _++_, append-nil}
-use Prim.Native.Nat.{ℕ, zero, suc, _+_, _*_, _-_, _/_, _%_, _≤_, _<_}
+use Prim.Native.Nat.{ℕ, _+_, _*_, _%_, _≤_, _<_}
 use native.Mathlib.Nat.{zero-add}
 use native.Mathlib.Omega.{arith}
 use lib.Ieee.{Float, nan}
-use lib.ListN.{length, getD, length-append, List·getD-append}
+use lib.ListN.{length, getD, replicate, length-append, List·getD-append, getD-replicate}
 use lib.Seq.{getD-append-add}
-use borrow.Author.Tests.{ne-eqb}
 use Rattle.float.specs.Finite.{finiteOf}
 use Rattle.line.specs.Held.{Held}
-use Rattle.order.specs.Chain.{State, at}
+use Rattle.order.specs.Chain.{State}
+use Rattle.order.specs.Finish.{finishing}
 use Rattle.order.specs.Claims.{begin, Cut}
 use Rattle.order.proofs.Cuts.{cut-parts}
 use Rattle.stage.specs.declared.kind.Stage.{Stage}
-use Rattle.refuse.specs.Tops.{topsOf}
-use Rattle.refuse.specs.Refusals.{unrunFrom}
+use Rattle.tops.specs.Tops.{topsOf}
+use Rattle.tops.proofs.TopStages.{tops-le-16}
+use Rattle.refuse.proofs.Unrun.{unrun-most}
 use Rattle.chain.specs.Chain.{Room, chainOf, framesOf, Orderly, ordered}
-use Rattle.chain.specs.Run.{leftOf}
-use Rattle.chain.specs.Demands.{Arrays, Taken, AllAt, Finishing, CutAt, CutAnywhere}
+use Rattle.chain.specs.Demands.{Arrays, Taken, AllAt, Finishing, CutAt, CutAnywhere, RenderCut, RenderCutAnywhere}
 use Rattle.chain.proofs.ChainLocal.{Sized, chain-local}
 use Rattle.chain.proofs.Accepts.{ClearOn, ready, clear-with, clear-after}
-use Rattle.chain.proofs.DemandsMet.{clear, taken, left-is, whole, finishing-taken}
-
--- where no stage has begun, every frame is unrun
-unrun-fresh : (tops : ℕ) (p : List ℕ) → (0 < tops → getD p 0 0 ≡ 0) → unrunFrom tops p ≡ 0
-unrun-fresh zero p h = refl
-unrun-fresh (suc tops) p h = ap (λ (b : Bool). cond b 0 (2 * getD p 0 0)) (ne-eqb (suc tops) 0 (λ e. none e)) ∙ ap (λ (n : ℕ). 2 * n) (h (omega arith))
-  where
-    none : suc tops ≡ 0 → ⊥
-    none e = omega arith
+use Rattle.chain.proofs.Running.{clear, left-is, rendered-is}
+use Rattle.chain.proofs.DemandsMet.{taken, whole, finishing-taken, finishing-is}
 
 module _ (rate : ℕ) (l : List Stage) (c : ℕ) where
   -- an unstarted block with the samples of part of a clear one, and with lines and memories of a clear one, is clear
@@ -50,42 +42,107 @@ module _ (rate : ℕ) (l : List Stage) (c : ℕ) where
     short = omega (arith, cs .short);
     within = λ k h. omega (arith, fz k h);
     falls = λ k h g. omega (arith, fz k h);
-    finite = λ i h g. ap finiteOf (same i g) ∙ cs .finite (d + i) (omega (arith, unrun-fresh (topsOf l c) (s .progress) (fs 0))) (omega arith);
+    finite = λ i h g. ap finiteOf (same i g) ∙ cs .finite (d + i) (omega (arith, unrun-most (topsOf l c) (s .progress) 0 (λ q. omega (arith, fs 0 q)))) (omega arith);
     runs = tt;
   }
 
+-- ---- a block s of xs and ys, cut after xs: both parts are clear
+module _ (rate : ℕ) (l : List Stage) (c n : ℕ) (xs ys : List Float) (h : Held) (p p₁ p₂ : List ℕ) (k : length xs ≡ n * 2)
+    (ar : Arrays (begin (xs ++ ys) h p)) (l₁ : length p₁ ≡ 16) (l₂ : length p₂ ≡ 16) (t : Taken rate l c (begin (xs ++ ys) h p) [])
+    (fresh : AllAt rate l c 0 (begin (xs ++ ys) h p)) (fresh₁ : AllAt rate l c 0 (begin xs h p₁)) where
+  abbrev s : State Float Held
+  s = begin (xs ++ ys) h p
+
+  abbrev s₁ : State Float Held
+  s₁ = begin xs h p₁
+
+  whole-clear : ClearOn rate l c s []
+  whole-clear = clear rate l c s [] t
+
+  long : length (xs ++ ys) ≡ n * 2 + length ys
+  long = length-append xs ys ∙ ap (λ (m : ℕ). m + length ys) k
+
+  even : length (xs ++ ys) % 2 ≡ 0
+  even = whole-clear .even
+
+  first-clear : ClearOn rate l c s₁ []
+  first-clear = part-clear rate l c s s s₁ whole-clear fresh whole-clear fresh₁ refl (omega arith) (omega (arith, long)) 0 (omega (arith, long)) (λ i g. sym (ap (λ (m : ℕ). getD (xs ++ ys) m nan) (zero-add i) ∙ List·getD-append xs ys nan i g))
+
+  first-arrays : Arrays s₁
+  first-arrays = record { positions = ar .positions; floats = ar .floats; progress = l₁ }
+
+  -- the second part begins with what an order left of the first
+  module _ (a : List ℕ) (o : Orderly rate l c s₁ a) (fresh₂ : AllAt rate l c 0 (begin ys (ordered rate l c s₁ a .held) p₂)) where
+    abbrev r : State Float Held
+    r = ordered rate l c s₁ a
+
+    abbrev s₂ : State Float Held
+    s₂ = begin ys (r .held) p₂
+
+    after : Arrays r × ClearOn rate l c r []
+    after = clear-after rate l c a [] s₁ first-arrays (clear-with rate l c s₁ [] (a ++ []) first-clear (subst (λ (o : List ℕ). Orderly rate l c s₁ o) (sym (append-nil a)) o))
+
+    second-clear : ClearOn rate l c s₂ []
+    second-clear = part-clear rate l c s r s₂ whole-clear fresh (after .1) fresh₂ refl (omega (arith, long, even)) (omega (arith, long)) (n * 2) (omega (arith, long)) (λ i g. sym (ap (λ (m : ℕ). getD (xs ++ ys) (m + i) nan) (sym k) ∙ getD-append-add xs ys i nan))
+
+    second-arrays : Arrays s₂
+    second-arrays = record { positions = after .0 .positions; floats = after .0 .floats; progress = l₂ }
+
+    -- and three orders that finish leave the same
+    parts : (e b : List ℕ) → Finishing rate l c s e → Finishing rate l c s₁ a → Finishing rate l c s₂ b → Cut (ordered rate l c s e) (ordered rate l c s₁ a) (ordered rate l c s₂ b)
+    parts e b fe fa fb =
+        let f : framesOf xs ≡ n = rw k (omega arith) in
+        let g : framesOf (xs ++ ys) ≡ n + framesOf ys = rw long (omega arith) in
+        cut-parts (chainOf rate l c) (Room rate l c) (Sized rate l c) (chain-local rate l c) n (framesOf ys) s s₁ s₂ e a b k refl refl refl
+        (rw g at (ready rate l c s [] ar whole-clear)) (rw g at (whole rate l c s e fe))
+        (rw f at (ready rate l c s₁ [] first-arrays first-clear)) (rw f at (whole rate l c s₁ a fa))
+        (ready rate l c s₂ [] second-arrays second-clear) (whole rate l c s₂ b fb)
+
+-- what is left is the same, said of other names for it
+cut-same : {r q r₁ q₁ r₂ q₂ : State Float Held} → q ≡ r → q₁ ≡ r₁ → q₂ ≡ r₂ → Cut r r₁ r₂ → Cut q q₁ q₂
+cut-same e e₁ e₂ cut = rw (e, e₁, e₂) cut
+
 pub cut-anywhere : CutAnywhere
 cut-anywhere rate l c n xs ys h p p₁ p₂ e a b k ar l₁ l₂ t fe fa fb =
-    let C = chainOf rate l c in
     let s = begin (xs ++ ys) h p in
     let s₁ = begin xs h p₁ in
-    let r = ordered rate l c s₁ a in
-    let s₂ = begin ys (r .held) p₂ in
-    let long : length (xs ++ ys) ≡ n * 2 + length ys = length-append xs ys ∙ ap (λ (m : ℕ). m + length ys) k in
-    let cs = clear rate l c s [] t in
-    let even : length (xs ++ ys) % 2 ≡ 0 = cs .even in
-    let c₁ = part-clear rate l c s s s₁ cs (fe .fresh) cs (fa .fresh) refl (omega arith) (omega arith) 0 (omega arith) (λ i g. sym (ap (λ (m : ℕ). getD (xs ++ ys) m nan) (zero-add i) ∙ List·getD-append xs ys nan i g)) in
-    let a₁ : Arrays s₁ = record { positions = ar .positions; floats = ar .floats; progress = l₁ } in
-    let cr = clear-after rate l c a [] s₁ a₁ (clear-with rate l c s₁ [] (a ++ []) c₁ (subst (λ (o : List ℕ). Orderly rate l c s₁ o) (sym (append-nil a)) (fa .orderly))) in
-    let c₂ = part-clear rate l c s r s₂ cs (fe .fresh) (cr .1) (fb .fresh) refl (omega arith) (omega arith) (n * 2) (omega arith) (λ i g. sym (ap (λ (m : ℕ). getD (xs ++ ys) (m + i) nan) (sym k) ∙ getD-append-add xs ys i nan)) in
-    let a₂ : Arrays s₂ = record { positions = cr .0 .positions; floats = cr .0 .floats; progress = l₂ } in
-    let te = finishing-taken rate l c s e cs fe in
-    let ta = finishing-taken rate l c s₁ a c₁ fa in
-    let tb = finishing-taken rate l c s₂ b c₂ fb in
-    let f : framesOf xs ≡ n = rw k (omega arith) in
-    let g : framesOf (xs ++ ys) ≡ n + framesOf ys = rw long (omega arith) in
-    let cut = cut-parts C (Room rate l c) (Sized rate l c) (chain-local rate l c) n (framesOf ys) s s₁ s₂ e a b k refl refl refl
-    (rw g at (ready rate l c s [] ar cs)) (rw g at (whole rate l c s e fe))
-    (rw f at (ready rate l c s₁ [] a₁ c₁)) (rw f at (whole rate l c s₁ a fa))
-    (ready rate l c s₂ [] a₂ c₂) (whole rate l c s₂ b fb) in
+    let s₂ = begin ys (ordered rate l c s₁ a .held) p₂ in
+    let te = finishing-taken rate l c s e (whole-clear rate l c n xs ys h p p₁ p₂ k ar l₁ l₂ t (fe .fresh) (fa .fresh)) fe in
+    let ta = finishing-taken rate l c s₁ a (first-clear rate l c n xs ys h p p₁ p₂ k ar l₁ l₂ t (fe .fresh) (fa .fresh)) fa in
+    let tb = finishing-taken rate l c s₂ b (second-clear rate l c n xs ys h p p₁ p₂ k ar l₁ l₂ t (fe .fresh) (fa .fresh) a (fa .orderly) (fb .fresh)) fb in
     let left = left-is rate l c s₁ a ta in
     subst (λ (x : Held). CutAt rate l c s s₁ (begin ys x p₂) e a b) (ap (λ (w : State Float Held). w .held) (sym left))
     (record {
       taken = te;
       first-taken = ta;
       second-taken = tb;
-      same = record {
-        samples = ap (λ (w : State Float Held). w .samples) (left-is rate l c s e te) ∙ cut .samples ∙ ap₂ (λ (u v : State Float Held). u .samples ++ v .samples) (sym left) (sym (left-is rate l c s₂ b tb));
-        held = ap (λ (w : State Float Held). w .held) (left-is rate l c s e te) ∙ cut .held ∙ ap (λ (w : State Float Held). w .held) (sym (left-is rate l c s₂ b tb));
-      };
+      same = cut-same (left-is rate l c s e te) left (left-is rate l c s₂ b tb) (parts rate l c n xs ys h p p₁ p₂ k ar l₁ l₂ t (fe .fresh) (fa .fresh) a (fa .orderly) (fb .fresh) e b fe fa fb);
+    })
+
+-- ---- rendered, from progress zero
+
+pub render-cut-anywhere : RenderCutAnywhere
+render-cut-anywhere rate l c n xs ys h p k ar fresh t =
+    let zero : List ℕ = replicate 16 0 in
+    let s = begin (xs ++ ys) h p in
+    let s₁ = begin xs h zero in
+    let none : AllAt rate l c 0 s₁ = λ j q. getD-replicate 16 j 0 0 (omega (arith, tops-le-16 l c)) in
+    let a = finishing (topsOf l c) (framesOf xs) zero in
+    let cs = clear rate l c s [] t in
+    let c₁ = first-clear rate l c n xs ys h p zero zero k ar refl refl t fresh none in
+    let a₁ = first-arrays rate l c n xs ys h p zero zero k ar refl refl t fresh none in
+    let fe = finishing-is rate l c s ar cs fresh in
+    let fa = finishing-is rate l c s₁ a₁ c₁ none in
+    let s₂ = begin ys (ordered rate l c s₁ a .held) zero in
+    let c₂ = second-clear rate l c n xs ys h p zero zero k ar refl refl t fresh none a (fa .orderly) none in
+    let a₂ = second-arrays rate l c n xs ys h p zero zero k ar refl refl t fresh none a (fa .orderly) none in
+    let fb = finishing-is rate l c s₂ a₂ c₂ none in
+    let t₁ = taken rate l c s₁ [] c₁ in
+    let t₂ = taken rate l c s₂ [] c₂ in
+    let left = rendered-is rate l c s₁ t₁ in
+    subst (λ (x : Held). RenderCut rate l c s s₁ (begin ys x zero)) (ap (λ (w : State Float Held). w .held) (sym left))
+    (record {
+      first-taken = t₁;
+      second-taken = t₂;
+      same = cut-same (rendered-is rate l c s t) left (rendered-is rate l c s₂ t₂) (parts rate l c n xs ys h p zero zero k ar refl refl t fresh none a (fa .orderly) none _ _ fe fa fb);
     })

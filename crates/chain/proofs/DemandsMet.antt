@@ -1,6 +1,5 @@
 -- Demands 2 and 3 are met, as specs/Demands.antt states them. Assumes nothing.
 use mathlib.Core.Path.{_≡_, sym, ap, _∙_, subst}
-use mathlib.Core.Bool.{Bool, true, cond}
 use mathlib.Core.List.{List, [], _∷_}
 use Prim.Native.Nat.{ℕ, suc, _*_, _≤_}
 use native.Mathlib.Omega.{arith}
@@ -18,26 +17,19 @@ use Rattle.order.proofs.Finishing.{finishing-finishes, leaves-finishing}
 use Rattle.stage.specs.declared.kind.Stage.{Stage}
 use Rattle.stage.specs.Layout.{startOf}
 use Rattle.answer.specs.Answer.{acceptedOf}
-use Rattle.refuse.specs.Tops.{topAt, topsOf}
-use Rattle.refuse.proofs.TopStages.{top-le, top-next}
-use Rattle.table.proofs.Clears.{clear-of-accepted, accepted-of-clear}
-use Rattle.chain.specs.Chain.{stretch, Room, chainOf, framesOf, Ready, May, stepped, ordered}
-use Rattle.chain.specs.Run.{leftOf, renderedOf}
+use Rattle.tops.specs.Tops.{topAt, topsOf}
+use Rattle.tops.proofs.TopStages.{top-le, top-next}
+use Rattle.table.proofs.Clears.{accepted-of-clear}
+use Rattle.chain.specs.Chain.{stretch, Room, chainOf, framesOf, Ready, May, stepped}
+use Rattle.chain.specs.Run.{leftOf}
 use Rattle.chain.specs.Demands.{Arrays, Outside, Taken, AllAt, Finishing, StepByStep, OneStep, StepsKeepApart, Alike, StepsStandAlone, AnyOrder, WholeFrames, RenderIsRun}
 use Rattle.chain.proofs.Stretches.{stretch-same, outside-store, outside-positions, outside-floats}
 use Rattle.chain.proofs.ChainLocal.{Sized, chain-local}
 use Rattle.chain.proofs.Accepts.{ClearOn, ready, orderly, clear-with, clear-stays}
+use Rattle.chain.proofs.Running.{clear, left-is, rendered-is}
 
-module _ (rate : ℕ) (l : List Stage) (c : ℕ) where
-  pub clear : (s : State Float Held) (order : List ℕ) → Taken rate l c s order → ClearOn rate l c s order
-  clear s order t = clear-of-accepted rate l c (length (s .held .store)) (s .samples) (s .held .positions) (s .progress) order t
-
-  pub taken : (s : State Float Held) (order : List ℕ) → ClearOn rate l c s order → Taken rate l c s order
-  unfolding acceptedOf
-  taken s order z = ap acceptedOf (accepted-of-clear rate l c (length (s .held .store)) (s .samples) (s .held .positions) (s .progress) order z)
-
-  pub left-is : (s : State Float Held) (order : List ℕ) → Taken rate l c s order → leftOf rate l c s order ≡ ordered rate l c s order
-  left-is s order t = ap (λ (b : Bool). cond b (ordered rate l c s order) s) t
+pub taken : (rate : ℕ) (l : List Stage) (c : ℕ) (s : State Float Held) (order : List ℕ) → ClearOn rate l c s order → Taken rate l c s order
+taken rate l c s order z = ap acceptedOf (accepted-of-clear rate l c (length (s .held .store)) (s .samples) (s .held .positions) (s .progress) order z)
 
 -- ---- demand 2
 pub step-by-step : StepByStep
@@ -126,6 +118,12 @@ module _ (rate : ℕ) (l : List Stage) (c : ℕ) where
   pub finishing-taken : (s : State Float Held) (order : List ℕ) → ClearOn rate l c s [] → Finishing rate l c s order → Taken rate l c s order
   finishing-taken s order z f = taken rate l c s order (clear-with rate l c s [] order z (f .orderly))
 
+  -- from nothing, `finishing` is such an order
+  pub finishing-is : (s : State Float Held) → Arrays s → ClearOn rate l c s [] → AllAt rate l c 0 s → Finishing rate l c s (finishing (topsOf l c) (framesOf (s .samples)) (s .progress))
+  finishing-is s a z f =
+      let o = finishing-finishes (chainOf rate l c) (Room rate l c) (Sized rate l c) (chain-local rate l c) (framesOf (s .samples)) s (ready rate l c s [] a z) in
+      record { fresh = f; orderly = o .accepted; done = o .done }
+
 pub whole-frames : WholeFrames
 whole-frames rate l c s order a t f =
     let C = chainOf rate l c in
@@ -153,7 +151,7 @@ render-is-run rate l c s a t =
     let z = clear rate l c s [] t in
     let v = ready rate l c s [] a z in
     let f = finishing-finishes C (Room rate l c) (Sized rate l c) (chain-local rate l c) F s v in
-    let r : renderedOf rate l c s ≡ ordered rate l c s order = ap (λ (b : Bool). cond b (ordered rate l c s order) s) t in
+    let r = rendered-is rate l c s t in
     record {
       some = taken rate l c s order (clear-with rate l c s [] order z (f .accepted));
       done = subst (λ (w : State Float Held). AllAt rate l c F w) (sym r) (f .done);

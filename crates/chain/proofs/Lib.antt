@@ -2,10 +2,10 @@ pub mod Stretches
 pub mod ChainLocal
 pub mod Stays
 pub mod Accepts
+pub mod Running
 pub mod DemandsMet
 pub mod CutMet
 pub mod OneStep
 pub mod Turns
-pub mod Running
 pub mod OneOutcome
 pub mod TableMet

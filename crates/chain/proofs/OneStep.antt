@@ -15,8 +15,8 @@ use Rattle.stage.specs.declared.kind.Stage.{Stage}
 use Rattle.stage.specs.Layout.{startOf, startsOf}
 use Rattle.stage.proofs.Starts.{starts-at, start-le}
 use Rattle.step.specs.Step.{processAt}
-use Rattle.refuse.specs.Tops.{topAt, topsRecord}
-use Rattle.refuse.proofs.TopStages.{places-at, top-past, top-le, tops-le-16}
+use Rattle.tops.specs.Tops.{topAt, topsRecord}
+use Rattle.tops.proofs.TopStages.{places-at, top-past, top-le, tops-le-16}
 use Rattle.chain.specs.Chain.{stretch, replaced, frameOf, state, Ready, May, stepped}
 
 -- ---- where top stage k lies: at the places from i up to e, its lines from a up to b
@@ -69,10 +69,10 @@ located rate l c k starts places s h p q r m = record {
     e₀ = getD places (k + 1) 0
 
     i-is : i₀ ≡ topAt l c k
-    i-is = rw q (places-at l c k (omega (arith, m .inside)))
+    i-is = places-at l c q k (omega (arith, m .inside))
 
     e-is : e₀ ≡ topAt l c (suc k)
-    e-is = rw q (places-at l c (k + 1) (omega (arith, m .inside)) ∙ ap (topAt l c) (add-one k))
+    e-is = places-at l c q (k + 1) (omega (arith, m .inside)) ∙ ap (topAt l c) (add-one k)
 
     ec : e₀ ≤ c
     ec = omega (arith, e-is, top-le l c (suc k))
@@ -84,10 +84,10 @@ located rate l c k starts places s h p q r m = record {
     e16 = omega (arith, ec)
 
     a-is : getD starts i₀ 0 ≡ startOf rate l i₀
-    a-is = rw p (starts-at rate l i₀ (omega (arith, ie, e16)))
+    a-is = starts-at rate l p i₀ (omega (arith, ie, e16))
 
     b-is : getD starts e₀ 0 ≡ startOf rate l e₀
-    b-is = rw p (starts-at rate l e₀ e16)
+    b-is = starts-at rate l p e₀ e16
 
 -- ---- the stretches of one top stage, lent and back
 

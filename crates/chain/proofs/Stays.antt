@@ -1,16 +1,14 @@
 -- What an accepted block is known to meet still holds after a step that may be taken: so every part of an accepted order is accepted. Assumes nothing.
-use mathlib.Core.Path.{_≡_, refl, sym, ap, _∙_, subst}
-use mathlib.Core.Bool.{Bool, true, false, cond}
-use mathlib.Core.List.{List, [], _∷_}
-use Prim.Native.Nat.{ℕ, zero, suc, _+_, _*_, _-_, _/_, _≤_, _<_}
+use mathlib.Core.Path.{_≡_, sym, ap, _∙_, subst}
+use mathlib.Core.Bool.{true}
+use mathlib.Core.List.{List}
+use Prim.Native.Nat.{ℕ, suc, _+_, _*_, _-_, _≤_, _<_}
 use native.Mathlib.Nat.{sub-zero, le-of-eq}
 use native.Mathlib.Omega.{arith}
-use native.Mathlib.Decide.{ℕ-discrete, decLt}
-use lib.Dec.{eqb}
+use native.Mathlib.Decide.{ℕ-discrete}
 use lib.Ieee.{Float, nan}
 use lib.ListN.{length, getD, drop}
 use lib.Seq.{getD-drop}
-use borrow.Author.Tests.{eq-eqb, ne-eqb}
 use Rattle.float.specs.Finite.{finiteOf}
 use Rattle.line.specs.Held.{Held, ran}
 use Rattle.order.specs.Stretch.{part}
@@ -23,9 +21,10 @@ use Rattle.stage.specs.Kind.{stageAt}
 use Rattle.stage.specs.Layout.{startsOf}
 use Rattle.stage.specs.Lines.{linesOf}
 use Rattle.apart.proofs.OnLines.{Good, place-stays, good-part, good-splice}
-use Rattle.refuse.specs.Tops.{topAt, topsOf}
+use Rattle.tops.specs.Tops.{topAt, topsOf}
 use Rattle.refuse.specs.Refusals.{unrunFrom}
-use Rattle.refuse.proofs.TopStages.{top-le, top-next}
+use Rattle.refuse.proofs.Unrun.{unrun-some}
+use Rattle.tops.proofs.TopStages.{top-le, top-next}
 use Rattle.chain.specs.Chain.{stretch, replaced, Room, frameOf, chainOf, stepped}
 use Rattle.chain.proofs.ChainLocal.{Sized, chain-local}
 
@@ -34,12 +33,6 @@ past-frame : (n i : ℕ) (xs ys : List Float) → drop n xs ≡ drop n ys → n 
 past-frame n i xs ys e h =
     let k : n + (i - n) ≡ i = omega arith in
     sym (ap (λ (m : ℕ). getD xs m nan) k) ∙ sym (getD-drop n xs (i - n) nan) ∙ ap (λ (l : List Float). getD l (i - n) nan) e ∙ getD-drop n ys (i - n) nan ∙ ap (λ (m : ℕ). getD ys m nan) k
-
-unrun-some : (tops : ℕ) (p : List ℕ) → 0 < tops → unrunFrom tops p ≡ 2 * getD p 0 0
-unrun-some tops p h = ap (λ (b : Bool). cond b 0 (2 * getD p 0 0)) (ne-eqb tops 0 (λ e. none e))
-  where
-    none : tops ≡ 0 → ⊥
-    none e = omega arith
 
 module _ (rate : ℕ) (l : List Stage) (c : ℕ) (s : State Float Held) (k F : ℕ) (v : Inv (chainOf rate l c) (Room rate l c) F s) (o : Ok (chainOf rate l c) F s k) where
   z : State Float Held

@@ -1,12 +1,12 @@
 -- Stretches of places that lie apart do not touch one another, in the store, the positions and the floats. Assumes nothing.
-use mathlib.Core.Path.{_≡_, refl, ap, sym, _∙_}
+use mathlib.Core.Path.{_≡_}
 use mathlib.Core.List.{List}
-use Prim.Native.Nat.{ℕ, _+_, _*_, _-_, _≤_, _<_}
+use Prim.Native.Nat.{ℕ, _+_, _*_, _-_, _≤_}
 use native.Mathlib.Omega.{arith}
 use lib.ListN.{length}
 use Rattle.line.specs.Held.{Held, holds}
 use Rattle.line.proofs.Keeps.{Same}
-use Rattle.order.specs.Stretch.{part, splice}
+use Rattle.order.specs.Stretch.{splice}
 use Rattle.order.proofs.Stretches.{length-part, length-splice, part-before, part-after, part-same, drop-after, splice-comm}
 use Rattle.stage.specs.declared.kind.Stage.{Stage}
 use Rattle.stage.specs.Layout.{startOf}

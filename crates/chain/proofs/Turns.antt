@@ -9,7 +9,7 @@ use lib.Ieee.{Float}
 use lib.ListN.{length, getD, drop, replicate, drop-of-length-le}
 use lib.Seq.{drop-cons}
 use Rattle.line.specs.Held.{Held}
-use Rattle.order.specs.Order.{count, run, Accepted}
+use Rattle.order.specs.Order.{count, Accepted}
 use Rattle.order.specs.Chain.{State, at, step, Ok, Inv}
 use Rattle.order.specs.Claims.{Stepped, Kept}
 use Rattle.order.specs.Finish.{finishing-from, finishing}
@@ -18,7 +18,7 @@ use Rattle.order.proofs.OneStep.{one-step}
 use Rattle.order.proofs.Keeps.{run-keeps}
 use Rattle.order.proofs.Finishing.{finishing-finishes}
 use Rattle.stage.specs.declared.kind.Stage.{Stage}
-use Rattle.refuse.specs.Tops.{topsOf}
+use Rattle.tops.specs.Tops.{topsOf}
 use Rattle.chain.specs.Chain.{chainOf, Room, framesOf, Ready, May, Orderly, stepped, ordered}
 use Rattle.chain.proofs.ChainLocal.{Sized, chain-local}
 

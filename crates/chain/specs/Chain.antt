@@ -11,7 +11,7 @@ use Rattle.order.specs.Chain.{Out, State, Chain, step, Ok, Inv}
 use Rattle.stage.specs.declared.kind.Stage.{Stage}
 use Rattle.stage.specs.Layout.{startOf, startsOf, placePositions, placeFloats}
 use Rattle.step.specs.Step.{processAt}
-use Rattle.refuse.specs.Tops.{topAt, topsOf}
+use Rattle.tops.specs.Tops.{topAt, topsOf}
 
 -- ---- what the stages from list place i up to e hold, out of what all hold; and all with `a` in its place
 

@@ -3,9 +3,9 @@ use mathlib.Core.Path.{_≡_}
 use mathlib.Core.Logic.{_≢_}
 use mathlib.Core.Bool.{true}
 use mathlib.Core.List.{List, [], _∷_, _++_}
-use Prim.Native.Nat.{ℕ, suc, _+_, _*_, _≤_, _<_}
+use Prim.Native.Nat.{ℕ, suc, _*_, _≤_, _<_}
 use lib.Ieee.{Float}
-use lib.ListN.{length, take, drop}
+use lib.ListN.{length, take, drop, replicate}
 use Rattle.line.specs.Held.{Held}
 use Rattle.order.specs.Stretch.{part}
 use Rattle.order.specs.Order.{count}
@@ -16,7 +16,7 @@ use Rattle.order.specs.Claims.{begin, Cut}
 use Rattle.stage.specs.declared.kind.Stage.{Stage}
 use Rattle.stage.specs.Layout.{startOf, placePositions, placeFloats}
 use Rattle.answer.specs.Answer.{acceptedOf}
-use Rattle.refuse.specs.Tops.{topAt, topsOf}
+use Rattle.tops.specs.Tops.{topAt, topsOf}
 use Rattle.chain.specs.Chain.{stretch, chainOf, framesOf, stepped, Orderly, ordered}
 use Rattle.chain.specs.Run.{answerOn, leftOf, renderedOf}
 
@@ -137,6 +137,17 @@ CutAnywhere = (rate : ℕ) (l : List Stage) (c n : ℕ) (xs ys : List Float) (h 
     → Finishing rate l c (begin xs h p₁) first
     → Finishing rate l c (begin ys (ordered rate l c (begin xs h p₁) first .held) p₂) second
     → CutAt rate l c (begin (xs ++ ys) h p) (begin xs h p₁) (begin ys (leftOf rate l c (begin xs h p₁) first .held) p₂) whole first second
+
+-- the same with no order at all: `render` of the whole, and `render` of each part from progress zero
+pub record RenderCut (rate : ℕ) (l : List Stage) (c : ℕ) (s s₁ s₂ : State Float Held) : Type 0 where
+  pub first-taken : Taken rate l c s₁ []
+  pub second-taken : Taken rate l c s₂ []
+  pub same : Cut (renderedOf rate l c s) (renderedOf rate l c s₁) (renderedOf rate l c s₂)
+
+abbrev pub RenderCutAnywhere : Type 0
+RenderCutAnywhere = (rate : ℕ) (l : List Stage) (c n : ℕ) (xs ys : List Float) (h : Held) (p : List ℕ) → length xs ≡ n * 2
+    → Arrays (begin (xs ++ ys) h p) → AllAt rate l c 0 (begin (xs ++ ys) h p) → Taken rate l c (begin (xs ++ ys) h p) []
+    → RenderCut rate l c (begin (xs ++ ys) h p) (begin xs h (replicate 16 0)) (begin ys (renderedOf rate l c (begin xs h (replicate 16 0)) .held) (replicate 16 0))
 
 -- `render`, for callers who do not care about orders, leaves what `run` leaves with any accepted order that brings every stage to the last frame; and there is one, from wherever the block stands
 pub record Rendering (rate : ℕ) (l : List Stage) (c : ℕ) (s : State Float Held) : Type 0 where

@@ -10,7 +10,7 @@ use Rattle.order.specs.Finish.{finishing}
 use Rattle.stage.specs.declared.kind.Stage.{Stage}
 use Rattle.answer.specs.declared.Answer.{Answer}
 use Rattle.answer.specs.Answer.{acceptedOf}
-use Rattle.refuse.specs.Tops.{topsOf}
+use Rattle.tops.specs.Tops.{topsOf}
 use Rattle.chain.specs.Chain.{framesOf, ordered}
 use Rattle.refuse.specs.Refusals.{answerOf}
 

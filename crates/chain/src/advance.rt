@@ -4,7 +4,7 @@ ghost use Prim.Native.Nat.{_-_, _≤_, _<_};
 ghost use lib.ListN.{getD, replicate};
 ghost use Rattle.order.specs.Finish.{finishing};
 ghost use Rattle.stage.specs.Layout.{startsOf};
-ghost use Rattle.refuse.specs.Tops.{topsOf, topsRecord};
+ghost use Rattle.tops.specs.Tops.{topsOf, topsRecord};
 ghost use Rattle.chain.specs.Chain.{state, framesOf, Ready, May, Orderly, stepped, ordered};
 use frame::Frame;
 use stage::kind::Stage;

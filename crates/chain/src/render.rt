@@ -8,9 +8,9 @@ use crate::run::Outcome;
 use answer::is_accepted;
 use fresh::memories::Memories;
 use refuse::block::refusal;
-use refuse::tops::tops_of;
 use stage::kind::Stage;
 use stage::layout::starts_of;
+use tops::tops_of;
 
 pub fn render(
     rate: u32,

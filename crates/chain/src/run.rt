@@ -7,9 +7,9 @@ use answer::Answer;
 use answer::is_accepted;
 use fresh::memories::Memories;
 use refuse::block::refusal;
-use refuse::tops::tops_of;
 use stage::kind::Stage;
 use stage::layout::starts_of;
+use tops::tops_of;
 
 pub struct Outcome {
     pub answer: Answer,

@@ -15,7 +15,7 @@ use Rattle.decibels.specs.Amplitude.{amplitudeOf, eqAmplitudeOf}
 use Rattle.decibels.specs.Power.{NearestPower}
 use Rattle.decibels.proofs.Tables as Tables
 use Rattle.chain.specs.Table.{AnswersTabled, RenderUnchanged, StartsTabled}
-use Rattle.chain.specs.Demands.{StepByStep, StepsKeepApart, StepsStandAlone, AnyOrder, WholeFrames, CutAnywhere, RenderIsRun}
+use Rattle.chain.specs.Demands.{StepByStep, StepsKeepApart, StepsStandAlone, AnyOrder, WholeFrames, CutAnywhere, RenderCutAnywhere, RenderIsRun}
 use Rattle.chain.proofs.TableMet as TableMet
 use Rattle.chain.proofs.DemandsMet as DemandsMet
 use Rattle.chain.proofs.CutMet as CutMet
@@ -70,6 +70,10 @@ demand-3-whole-frames = DemandsMet.whole-frames
 -- "Cutting an accepted, unstarted block at any frame and running each part to its end leaves the output, lines and memories that running it whole to its end leaves."
 pub demand-3-cut : CutAnywhere
 demand-3-cut = CutMet.cut-anywhere
+
+-- and so it is with `render`, where no order is given
+pub demand-3-render-cut : RenderCutAnywhere
+demand-3-render-cut = CutMet.render-cut-anywhere
 
 -- and `render` is such an order
 pub render-is-run : RenderIsRun

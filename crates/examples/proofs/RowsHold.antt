@@ -25,13 +25,12 @@ use Rattle.stage.specs.Range.{inRangeOf}
 use Rattle.stage.specs.Layout.{startOf, startsOf, sizeOf}
 use Rattle.stage.specs.Lines.{lostOf}
 use Rattle.step.specs.Step.{processAt}
-use Rattle.answer.specs.Answer.{numberOf, placeOf, acceptedOf}
 use Rattle.refuse.specs.Shape.{faultyOf}
-use Rattle.refuse.specs.Tops.{topAt, topsOf}
+use Rattle.tops.specs.Tops.{topAt, topsOf}
 use Rattle.refuse.specs.Refusals.{stuckOf, answerOf}
 use Rattle.chain.specs.Chain.{stretch, replaced}
 use Rattle.examples.specs.Rows.{RowsHold}
 
 pub rows-hold : RowsHold
-unfolding sqrtOf narrowOf amplitudeOf addOf mulOf divOf mixOf pannedOf sqrt2 distortionOf front back joined frameAt frameIn nextPosition passedOf passLineOf storeOf combedOf combLineOf lengthOf firstFrom ownedOf nextPlace inRangeOf startOf startsOf sizeOf lostOf processAt numberOf placeOf acceptedOf faultyOf topsOf topAt stuckOf answerOf Order.out Order.put Order.step finishing-from stretch replaced absOf unitOf bothOf finiteOf literal add sub mul div neg lt le eq ofBits toBits round
+unfolding sqrtOf narrowOf amplitudeOf addOf mulOf divOf mixOf pannedOf sqrt2 distortionOf front back joined frameAt frameIn nextPosition passedOf passLineOf storeOf combedOf combLineOf lengthOf firstFrom ownedOf nextPlace inRangeOf startOf startsOf sizeOf lostOf processAt faultyOf topsOf topAt stuckOf answerOf Order.out Order.put Order.step finishing-from stretch replaced absOf unitOf bothOf finiteOf literal add sub mul div neg lt le eq ofBits toBits round
 rows-hold = (refl, (refl, (refl, (refl, (refl, (refl, (refl, (refl, (refl, (refl, (refl, (refl, (refl, (refl, (refl, (refl, tt))))))))))))))))

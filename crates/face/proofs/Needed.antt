@@ -10,7 +10,6 @@ use Rattle.stage.specs.declared.kind.Stage.{Stage}
 use Rattle.stage.specs.First.{firstOf, some}
 use Rattle.stage.specs.Layout.{startOf}
 use Rattle.answer.specs.declared.Answer.the-variants.{Accepted, Rate, Stages, Shape, Setting, Store}
-use Rattle.answer.specs.Answer.{numberOf, placeOf}
 use Rattle.rows.specs.Rows.{firstRow}
 use Rattle.refuse.specs.Refusals.{outOfRange, chainAnswer}
 use Rattle.refuse.specs.Shape.{faultyOf}
@@ -21,7 +20,7 @@ use Rattle.face.specs.Face.{roomOut}
 rows : (n k j : ℕ) (a b d e f : Bool) → ltb 0 n ≡ f
     → roomOut (cond a Rate (cond b Stages (cond d (Shape k) (cond e (Setting j) (cond f (Store n) Accepted))))) .number ≡ 0
     → roomOut (cond a Rate (cond b Stages (cond d (Shape k) (cond e (Setting j) (cond f (Store n) Accepted))))) .place ≡ n
-unfolding roomOut answerOut numberOf placeOf
+unfolding roomOut answerOut
 rows n k j true b d e f q h = absurd (omega arith)
 rows n k j false true d e f q h = absurd (omega arith)
 rows n k j false false true e f q h = absurd (omega arith)

@@ -1,7 +1,8 @@
 -- One float after the other is cleared. Assumes nothing.
-use mathlib.Core.Path.{_≡_, refl, ap, _∙_}
+use mathlib.Core.Path.{_≡_, refl, ap, sym, _∙_}
 use mathlib.Core.List.{List, [], _∷_, _++_}
-use Prim.Native.Nat.{ℕ, zero, suc, _+_, _≤_, _<_}
+use Prim.Native.Nat.{ℕ, zero, suc, _+_, _<_}
+use native.Mathlib.Numerals.{add-one}
 use native.Mathlib.Omega.{arith}
 use lib.Ieee.{Float, binary32}
 use lib.ListN.{length, set, drop, replicate}
@@ -14,11 +15,8 @@ cleared-none xs = refl
 
 pub cleared-more : (i : ℕ) (xs : List Float) → i < length xs → set (clearedTo i xs) i (literal binary32 0 1) ≡ clearedTo (i + 1) xs
 unfolding clearedTo
-cleared-more i xs h = go i xs h ∙ ap (λ (n : ℕ). replicate n (literal binary32 0 1) ++ drop n xs) (add-back i)
+cleared-more i xs h = go i xs h ∙ ap (λ (n : ℕ). replicate n (literal binary32 0 1) ++ drop n xs) (sym (add-one i))
   where
-    add-back : (i : ℕ) → suc i ≡ i + 1
-    add-back i = omega arith
-
     go : (i : ℕ) (xs : List Float) → i < length xs → set (replicate i (literal binary32 0 1) ++ drop i xs) i (literal binary32 0 1) ≡ replicate (suc i) (literal binary32 0 1) ++ drop (suc i) xs
     go i [] h = absurd (omega arith)
     go zero (x ∷ xs) h = refl

@@ -1,6 +1,6 @@
 -- A block cut at any frame leaves what its two parts leave, the second begun with what the first left: by `render`, which knows no
 -- order.
-use mathlib.Core.Path.{_≡_, refl, sym, ap, ap₂, _∙_}
+use mathlib.Core.Path.{_≡_, sym, ap, ap₂, _∙_}
 use mathlib.Core.List.{List, [], _∷_, _++_, append-assoc}
 use Prim.Native.Nat.{ℕ, zero, suc, _+_, _*_}
 use native.Mathlib.Omega.{arith}
@@ -9,7 +9,7 @@ use lib.ListN.{length}
 use Rattle.order.specs.Order.{run}
 use Rattle.order.specs.Chain.{Out, State, Chain, step, Local, Inv}
 use Rattle.order.specs.Render.{from, first, rest, followedBy, pass, render}
-use Rattle.order.specs.Claims.{begin, Whole, Cut}
+use Rattle.order.specs.Claims.{Whole, Cut}
 use Rattle.order.proofs.FrameByFrame.{order-renders}
 
 -- ---- rendering c + d frames is rendering c of them, and then d
@@ -58,11 +58,3 @@ module _ {X H : Type 0} (C : Chain X H) (Fits : H → Type 0) (Sized : ℕ → H
           ∙ ap₂ (λ x g. render C (c + d) (block x g)) p q
           ∙ render-append C c d (s₁ .samples) (s₂ .samples) (s₁ .held) l
           ∙ sym (ap₂ followedBy first-is second-is)
-
-  pub cut-anywhere : (c d : ℕ) (xs ys : List X) (h : H) (p p₁ p₂ e a b : List ℕ) → length xs ≡ c * 2
-      → Inv C Fits (c + d) (begin (xs ++ ys) h p) → Whole C (c + d) (begin (xs ++ ys) h p) e
-      → Inv C Fits c (begin xs h p₁) → Whole C c (begin xs h p₁) a
-      → Inv C Fits d (begin ys (run (step C) (begin xs h p₁) a .held) p₂) → Whole C d (begin ys (run (step C) (begin xs h p₁) a .held) p₂) b
-      → Cut (run (step C) (begin (xs ++ ys) h p) e) (run (step C) (begin xs h p₁) a) (run (step C) (begin ys (run (step C) (begin xs h p₁) a .held) p₂) b)
-  cut-anywhere c d xs ys h p p₁ p₂ e a b l =
-      let s₁ = begin xs h p₁ in cut-parts c d (begin (xs ++ ys) h p) s₁ (begin ys (run (step C) s₁ a .held) p₂) e a b l refl refl refl

@@ -10,4 +10,3 @@ pub mod Finishing
 pub mod OneFrame
 pub mod FrameByFrame
 pub mod Cuts
-pub mod Turns

@@ -5,8 +5,8 @@ use mathlib.Core.Bool.{Bool, true, false, _&&_, _||_, true≢false, false≢true
 use Prim.Native.Nat.{ℕ, _≤_, _<_}
 use native.Mathlib.Decide.{decLe}
 use native.Mathlib.Omega.{arith}
-use lib.Dec.{leb}
-use borrow.Author.Tests.{le-leb, lt-leb}
+use lib.Dec.{ltb, leb}
+use borrow.Author.Tests.{lt-ltb, le-ltb, le-leb, lt-leb}
 
 -- a comparison by differences is one by sums, where each follows from the other
 pub leb-same : (a b a' b' : ℕ) → (a ≤ b → a' ≤ b') → (a' ≤ b' → a ≤ b) → leb a b ≡ leb a' b'
@@ -19,6 +19,14 @@ leb-same a b a' b' f g = go (decLe a b)
         turn : Dec (a' ≤ b') → b' < a'
         turn (yes k) = absurd (h (g k))
         turn (no k) = omega arith
+
+-- a test of numbers that are the definition's, by other names
+module _ {r x n m : ℕ} (e : r ≡ x) (q : n ≡ m) where
+  pub less-so : r < n → ltb x m ≡ true
+  less-so h = lt-ltb x m (omega arith)
+
+  pub less-not : n ≤ r → ltb x m ≡ false
+  less-not h = le-ltb x m (omega arith)
 
 -- ---- "and", "or", "not"
 pub true-or-false : (b : Bool) → (b ≡ true) ⊎ (b ≡ false)

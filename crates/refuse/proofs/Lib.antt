@@ -1,9 +1,7 @@
 pub mod Bools
 pub mod Shapes
 pub mod Rows
-pub mod Chains
-pub mod TopStages
 pub mod Entries
-pub mod Blocks
+pub mod Unrun
 pub mod Parts
 pub mod OneOutcome

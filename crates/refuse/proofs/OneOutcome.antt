@@ -3,13 +3,9 @@ use mathlib.Core.Path.{sym, _∙_}
 use Rattle.float.proofs.Outcome.{Single}
 use Rattle.refuse.proofs.block as block
 use Rattle.refuse.proofs.check as check
-use Rattle.refuse.proofs.tops as tops
 
 pub check-chain-single : Single check.check_chain.Reads.Post
 check-chain-single κs a r r' s s' p q = p ∙ sym q
 
 pub refusal-single : Single block.refusal.Reads.Post
 refusal-single κs a r r' s s' p q = p ∙ sym q
-
-pub tops-of-single : Single tops.tops_of.Reads.Post
-tops-of-single κs a r r' s s' p q = p ∙ sym q

@@ -13,7 +13,6 @@ use Rattle.refuse.proofs.Rows.{Refusing, NoRow, no-row, first-refused, 
 
 module _ (rate : ℕ) (l : List Stage) (c floats : ℕ) where
   refusing : Refusing (chainRows rate l c floats)
-  unfolding acceptedOf
   refusing = (refl, (refl, (refl, (refl, (refl, tt)))))
 
   -- no row of the chain applies

@@ -34,7 +34,7 @@ no-row-accepted (r ∷ rs) f = rw (f .0) (no-row-accepted rs (f .1))
 -- a table in two parts
 module _ (ys : List (Row Answer)) where
   pub first-refused : (xs : List (Row Answer)) → acceptedOf (firstRow xs Accepted) ≡ false → firstRow (xs ++ ys) Accepted ≡ firstRow xs Accepted
-  unfolding firstRow acceptedOf
+  unfolding firstRow
   first-refused [] h = absurd (false≢true (sym h))
   first-refused (r ∷ rs) h = go (r .applies) h (first-refused rs)
     where

@@ -17,7 +17,7 @@ use Rattle.stage.specs.Layout.{startOf, placePositions}
 use Rattle.answer.specs.declared.Answer.{Answer}
 use Rattle.answer.specs.declared.Answer.the-variants.{Accepted, Rate, Stages, Shape, Setting, Store, Position, Samples, Frames, Progress, Sample, Entry}
 use Rattle.refuse.specs.Shape.{faultyOf}
-use Rattle.refuse.specs.Tops.{topsOf}
+use Rattle.tops.specs.Tops.{topsOf}
 
 -- ---- what the rows ask
 

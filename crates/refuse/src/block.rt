@@ -6,12 +6,12 @@ ghost use lib.ListN.{length, getD};
 ghost use Rattle.stage.specs.First.{firstOf};
 ghost use Rattle.refuse.specs.Refusals.{lostAt, aheadAt, unrunFrom, badSample, mayRun, stuckOf, blockAnswer, answerOf};
 use crate::check::check_chain;
-use crate::tops::tops_of;
 use answer::Answer;
 use answer::is_accepted;
 use float::finite::is_finite_f32;
 use stage::kind::Stage;
 use stage::lines::is_lost;
+use tops::tops_of;
 
 fn first_lost(rate: u32, stages: [Stage; 16], count: usize, positions: &[usize]) -> usize
     requires { ⌜ (count ≤ 16) × (length (now positions) ≡ 384) ⌝ }

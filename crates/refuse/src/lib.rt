@@ -3,4 +3,3 @@
 pub mod block;
 pub mod check;
 mod shape;
-pub mod tops;

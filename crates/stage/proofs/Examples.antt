@@ -1,7 +1,7 @@
 -- The edges of document 01's table of settings and of its lines, worked out by antt on the definitions. Assumes nothing.
 use mathlib.Core.Path.{_≡_, refl}
 use mathlib.Core.Bool.{Bool, true, false}
-use mathlib.Core.List.{List, [], _∷_}
+use mathlib.Core.List.{[], _∷_}
 use Prim.Native.Nat.{ℕ, _+_, _-_, _^_}
 use lib.IntN.{ℤ, pos, negsuc}
 use lib.Ieee.{Float, nan, fin, binary32, binary64, le}
@@ -129,11 +129,7 @@ pub panning-nan : inRangeOf (PanningControl nan) ≡ false
 unfolding inRangeOf finiteOf
 panning-nan = refl
 
--- "one reverb at 44,100 needs 25,450 floats"; a delay two a frame
-pub reverb-25450 : floatsOf 44100 (Reverb one one one one) ≡ 25450
-unfolding floatsOf reverbFloats
-reverb-25450 = refl
-
+-- two floats a frame of a delay
 pub delay-floats : floatsOf 44100 (delayed 480000) ≡ 960000
 unfolding floatsOf
 delay-floats = refl

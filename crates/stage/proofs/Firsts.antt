@@ -1,11 +1,10 @@
--- Laws of the first number at which something is so, and of a loop that looks for it: what a loop knows at its end says which number is the first, and the first says what a loop would find. Assumes nothing.
-use mathlib.Core.Path.{_≡_, refl, ap, sym, _∙_}
+-- Laws of the first number at which something is so, and of a loop that looks for it, number after number. Assumes nothing.
+use mathlib.Core.Path.{_≡_, refl, sym, _∙_}
 use mathlib.Core.Bool.{Bool, true, false, cond, false≢true}
-use Prim.Native.Nat.{ℕ, zero, suc, _+_, _-_, _≤_, _<_}
+use Prim.Native.Nat.{ℕ, zero, suc, _+_, _≤_, _<_}
 use native.Mathlib.Omega.{arith}
-use native.Mathlib.Numerals.{add-one}
 use native.Mathlib.Decide.{ℕ-discrete, decLt}
-use lib.Dec.{ltb}
+use borrow.Author.Count.{below-more}
 use borrow.Author.Tests.{ltb-true, ltb-false, lt-ltb, le-ltb}
 use Rattle.stage.specs.First.{firstFrom, firstOf, some}
 
@@ -42,38 +41,6 @@ module _ (t : ℕ → Bool) where
       go true q g r = q
       go false q g r = r (omega arith)
 
-  -- ---- a loop over k below n, by what is left to look at
-  pub look-start : (n : ℕ) → firstFrom t (n - 0) 0 ≡ firstOf t n
-  look-start n = let z : n - 0 ≡ n = omega arith in rw z
-
-  module _ (n k : ℕ) where
-    more : k < n → n - k ≡ suc (n - (k + 1))
-    more h = omega arith
-
-    pub look-hit : k < n → t k ≡ true → firstFrom t (n - k) k ≡ k
-    unfolding firstFrom
-    look-hit h q = rw (more h, q)
-
-    pub look-miss : k < n → t k ≡ false → firstFrom t (n - k) k ≡ firstFrom t (n - (k + 1)) (k + 1)
-    unfolding firstFrom
-    look-miss h q = rw (more h, q) (rw add-one)
-
-    pub look-end : n ≤ k → firstFrom t (n - k) k ≡ k
-    unfolding firstFrom
-    look-end h = let z : n - k ≡ 0 = omega arith in rw z
-
-  -- what is left after k numbers at which it is not so
-  pub passed : (n k : ℕ) → k ≤ n → ((j : ℕ) → j < k → t j ≡ false) → firstFrom t (n - k) k ≡ firstOf t n
-  passed n zero h f = look-start n
-  passed n (suc k) h f = ap (λ (i : ℕ). firstFrom t (n - i) i) (sym (add-one k)) ∙ sym (look-miss n k h (f k (omega arith))) ∙ passed n k (omega arith) (λ j g. f j (omega arith))
-
-  -- ---- what a loop knows gives the first
-  pub first-is : (n k : ℕ) → k < n → ((j : ℕ) → j < k → t j ≡ false) → t k ≡ true → firstOf t n ≡ k
-  first-is n k h f q = sym (passed n k (omega arith) f) ∙ look-hit n k h q
-
-  pub first-none : (n : ℕ) → ((j : ℕ) → j < n → t j ≡ false) → firstOf t n ≡ n
-  first-none n f = sym (passed n n (omega arith) f) ∙ look-end n n (omega arith)
-
   -- ---- what the first gives
   pub first-le : (n : ℕ) → firstOf t n ≤ n
   first-le n = omega (arith, from-le n 0)
@@ -84,12 +51,31 @@ module _ (t : ℕ → Bool) where
   pub first-clear : (n j : ℕ) → j < firstOf t n → t j ≡ false
   first-clear n j h = from-clear n 0 j (omega arith) h
 
+  -- ---- and what gives the first: it is so at no number before
+  never : (j : ℕ) → t j ≡ false → t j ≡ true → ⊥
+  never j h q = false≢true (sym h ∙ q)
+
+  pub first-is : (n k : ℕ) → k < n → ((j : ℕ) → j < k → t j ≡ false) → t k ≡ true → firstOf t n ≡ k
+  first-is n k h f q = go (decLt (firstOf t n) k) (decLt k (firstOf t n))
+    where
+      go : Dec (firstOf t n < k) → Dec (k < firstOf t n) → firstOf t n ≡ k
+      go (yes g) d = absurd (never (firstOf t n) (f (firstOf t n) g) (first-so n (omega arith)))
+      go (no g) (yes d) = absurd (never k (first-clear n k d) q)
+      go (no g) (no d) = omega arith
+
+  pub first-none : (n : ℕ) → ((j : ℕ) → j < n → t j ≡ false) → firstOf t n ≡ n
+  first-none n f = go (decLt (firstOf t n) n)
+    where
+      go : Dec (firstOf t n < n) → firstOf t n ≡ n
+      go (yes g) = absurd (never (firstOf t n) (f (firstOf t n) g) (first-so n g))
+      go (no g) = omega (arith, first-le n)
+
   -- ---- the same of `some`
   pub some-hit : (n k : ℕ) → k < n → t k ≡ true → some t n ≡ true
   some-hit n k h q = go (decLt k (firstOf t n))
     where
       go : Dec (k < firstOf t n) → some t n ≡ true
-      go (yes g) = absurd (false≢true (sym (first-clear n k g) ∙ q))
+      go (yes g) = absurd (never k (first-clear n k g) q)
       go (no g) = lt-ltb (firstOf t n) n (omega arith)
 
   pub some-none : (n : ℕ) → ((j : ℕ) → j < n → t j ≡ false) → some t n ≡ false
@@ -102,21 +88,23 @@ module _ (t : ℕ → Bool) where
     pub some-so : some t n ≡ true → t (firstOf t n) ≡ true
     some-so h = first-so n (some-less h)
 
-    pub none-first : some t n ≡ false → firstOf t n ≡ n
-    none-first h = omega (arith, ltb-false (firstOf t n) n h, first-le n)
-
     pub none-clear : some t n ≡ false → (j : ℕ) → j < n → t j ≡ false
-    none-clear h j g = first-clear n j (omega (arith, none-first h))
+    none-clear h j g = first-clear n j (omega (arith, ltb-false (firstOf t n) n h))
 
--- ---- two tests that agree below n
-module _ (t u : ℕ → Bool) where
-  from-same : (m k : ℕ) → ((j : ℕ) → k ≤ j → j < k + m → t j ≡ u j) → firstFrom t m k ≡ firstFrom u m k
-  unfolding firstFrom
-  from-same zero k f = refl
-  from-same (suc m) k f = rw (f k (omega arith) (omega arith), from-same m (suc k) (λ j h g. f j (omega arith) (omega arith)))
+  -- ---- a loop over k below n has looked at the numbers below k, and it is so at none of them
+  pub record Looked (n k : ℕ) : Type 0 where
+    pub within : k ≤ n
+    pub clear : (j : ℕ) → j < k → t j ≡ false
 
-  pub first-same : (n : ℕ) → ((j : ℕ) → j < n → t j ≡ u j) → firstOf t n ≡ firstOf u n
-  first-same n f = from-same n 0 (λ j h g. f j (omega arith))
+pub look-start : {t : ℕ → Bool} {n : ℕ} → Looked t n 0
+look-start = record { within = omega arith; clear = λ j h. absurd (omega arith) }
 
-  pub some-same : (n : ℕ) → ((j : ℕ) → j < n → t j ≡ u j) → some t n ≡ some u n
-  some-same n f = ap (λ (k : ℕ). ltb k n) (first-same n f)
+module _ {t : ℕ → Bool} {n k : ℕ} (l : Looked t n k) where
+  pub look-on : k < n → t k ≡ false → Looked t n (k + 1)
+  look-on h q = record { within = omega arith; clear = below-more (λ j. t j ≡ false) k (l .clear) q }
+
+  pub look-found : k < n → t k ≡ true → k ≡ firstOf t n
+  look-found h q = sym (first-is t n k h (l .clear) q)
+
+  pub look-over : n ≤ k → k ≡ firstOf t n
+  look-over h = let e : k ≡ n = omega (arith, l .within) in e ∙ sym (first-none t n (λ j g. l .clear j (omega arith)))

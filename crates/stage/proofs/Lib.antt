@@ -1,4 +1,6 @@
+pub mod Unnamed
 pub mod Firsts
+pub mod Listed
 pub mod Starts
 pub mod Next
 pub mod OneOutcome

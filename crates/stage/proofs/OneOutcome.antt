@@ -1,4 +1,4 @@
--- Each public function's promise admits one outcome. `size_between` and `is_lost` are lent a list by `&`, which they cannot change, so there too a caller sees the result and nothing else. Assumes nothing.
+-- Each public function's promise admits one outcome. `size_between`, `number_at` and `is_lost` are lent a list by `&`, which they cannot change, so there too a caller sees the result and nothing else. Assumes nothing.
 use mathlib.Core.Path.{sym, _∙_}
 use Rattle.float.proofs.Outcome.{Single}
 use Rattle.stage.proofs.kind as kind
@@ -20,6 +20,9 @@ next-place-single κs a r r' s s' p q = p .0 ∙ sym (q .0)
 
 pub size-between-single : Single layout.size_between.Reads.Post
 size-between-single κs a r r' s s' p q = p ∙ sym q
+
+pub number-at-single : Single layout.number_at.Reads.Post
+number-at-single κs a r r' s s' p q = p ∙ sym q
 
 pub is-lost-single : Single lines.is_lost.Reads.Post
 is-lost-single κs a r r' s s' p q = p ∙ sym q

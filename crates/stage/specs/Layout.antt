@@ -1,5 +1,5 @@
 -- Where what stages hold lies: "lines lie in list order, each a stretch of the store that begins where the last one ends"; memories by list place. Definitions only.
-use mathlib.Core.List.{List, [], _∷_}
+use mathlib.Core.List.{List}
 use Prim.Native.Nat.{ℕ, zero, suc, _+_, _*_, _-_}
 use lib.ListN.{getD}
 use Rattle.line.specs.Held.{Held, front, back}
@@ -7,6 +7,7 @@ use Rattle.tuning.specs.Tuning.{reverbFloats}
 use Rattle.stage.specs.declared.kind.Stage.{Stage}
 use Rattle.stage.specs.declared.kind.Stage.the-variants.{VolumeControl, PanningControl, Distortion, Filter, EqFilter, Reverb, Delay}
 use Rattle.stage.specs.Kind.{stageAt}
+use Rattle.stage.specs.Listed.{listFrom, listOf}
 
 -- the floats of the stage's own lines: "two per delay frame"
 unfoldable pub floatsOf : ℕ → Stage → ℕ
@@ -24,16 +25,10 @@ unfolding floatsOf
 startOf rate l zero = 0
 startOf rate l (suc i) = startOf rate l i + floatsOf rate (stageAt l i)
 
--- the starts of n places from i on
-unfoldable pub startsFrom : ℕ → List Stage → ℕ → ℕ → List ℕ
-unfolding startOf
-startsFrom rate l i zero = []
-startsFrom rate l i (suc n) = startOf rate l i ∷ startsFrom rate l (suc i) n
-
--- of the 16 places, and where the last one ends
+-- the starts of the 16 places, and where the last one ends
 unfoldable pub startsOf : ℕ → List Stage → List ℕ
-unfolding startsFrom
-startsOf rate l = startsFrom rate l 0 17
+unfolding startOf listFrom
+startsOf rate l = listOf (startOf rate l) 17
 
 -- the floats of the lines of the stages from i up to e
 unfoldable pub sizeOf : List ℕ → ℕ → ℕ → ℕ

@@ -1,5 +1,5 @@
 -- A stage's lines, and whether its remembered positions are on them: "a remembered position (one per line, a delay's in frames) not below its line's length". Definitions only.
-use mathlib.Core.Bool.{Bool, not}
+use mathlib.Core.Bool.{Bool}
 use mathlib.Core.List.{List, [], _∷_}
 use Prim.Native.Nat.{ℕ}
 use lib.Dec.{leb}
@@ -19,9 +19,13 @@ linesOf rate (EqFilter kind g gain q) = []
 linesOf rate (Reverb feedback damping width mix) = reverbLines rate
 linesOf rate (Delay frames feedback mix owned) = frames ∷ []
 
--- of some positions, one is not below its line's length
+-- position j is not below the length of line j
+abbrev pub offLine : List ℕ → List ℕ → ℕ → Bool
+offLine lines positions j = leb (getD lines j 0) (getD positions j 0)
+
+-- and so is one of some positions
 unfoldable pub lostFrom : List ℕ → List ℕ → Bool
-lostFrom lines positions = some (λ j. leb (getD lines j 0) (getD positions j 0)) (length lines)
+lostFrom lines positions = some (offLine lines positions) (length lines)
 
 unfoldable pub lostOf : ℕ → Stage → List ℕ → Bool
 unfolding linesOf lostFrom

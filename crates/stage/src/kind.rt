@@ -48,36 +48,12 @@ pub fn owned(stage: Stage) -> usize
     ensures { λ r. ⌜ r ≡ ownedOf stage ⌝ }
 {
     match stage {
-        Stage::VolumeControl { volume: _ } => 0,
-        Stage::PanningControl { panning: _ } => 0,
-        Stage::Distortion {
-            kind: _,
-            drive: _,
-            mix: _,
-        } => 0,
-        Stage::Filter {
-            mode: _,
-            g: _,
-            resonance: _,
-            mix: _,
-        } => 0,
-        Stage::EqFilter {
-            kind: _,
-            g: _,
-            gain: _,
-            q: _,
-        } => 0,
-        Stage::Reverb {
-            feedback: _,
-            damping: _,
-            stereo_width: _,
-            mix: _,
-        } => 0,
         Stage::Delay {
             frames: _,
             feedback: _,
             mix: _,
             owned,
         } => owned,
+        _ => 0,
     }
 }

@@ -14,25 +14,6 @@ pub fn floats_of(rate: u32, stage: Stage) -> usize
     ensures { λ r. ⌜ (r ≡ floatsOf rate stage) × (r ≤ 24 * 0x1_0000_0000) ⌝ }
 {
     match stage {
-        Stage::VolumeControl { volume: _ } => 0,
-        Stage::PanningControl { panning: _ } => 0,
-        Stage::Distortion {
-            kind: _,
-            drive: _,
-            mix: _,
-        } => 0,
-        Stage::Filter {
-            mode: _,
-            g: _,
-            resonance: _,
-            mix: _,
-        } => 0,
-        Stage::EqFilter {
-            kind: _,
-            g: _,
-            gain: _,
-            q: _,
-        } => 0,
         Stage::Reverb {
             feedback: _,
             damping: _,
@@ -45,6 +26,7 @@ pub fn floats_of(rate: u32, stage: Stage) -> usize
             mix: _,
             owned: _,
         } => 2 * (frames as usize),
+        _ => 0,
     }
 }
 
@@ -89,7 +71,7 @@ pub fn size_between(starts: &[usize; 17], i: usize, e: usize) -> usize
 }
 
 // The number at a place of a list, and 0 past its end.
-pub(crate) fn number_at(numbers: &[usize], i: usize) -> usize
+pub fn number_at(numbers: &[usize], i: usize) -> usize
     ensures { λ r. ⌜ r ≡ getD (now (numbers .entry)) i 0 ⌝ }
 {
     if i < numbers.len() {

@@ -23,25 +23,6 @@ pub fn is_lost(rate: u32, stage: Stage, positions: &[usize]) -> bool
     ensures { λ r. ⌜ r ≡ lostOf rate stage (now (positions .entry)) ⌝ }
 {
     match stage {
-        Stage::VolumeControl { volume: _ } => false,
-        Stage::PanningControl { panning: _ } => false,
-        Stage::Distortion {
-            kind: _,
-            drive: _,
-            mix: _,
-        } => false,
-        Stage::Filter {
-            mode: _,
-            g: _,
-            resonance: _,
-            mix: _,
-        } => false,
-        Stage::EqFilter {
-            kind: _,
-            g: _,
-            gain: _,
-            q: _,
-        } => false,
         Stage::Reverb {
             feedback: _,
             damping: _,
@@ -54,5 +35,6 @@ pub fn is_lost(rate: u32, stage: Stage, positions: &[usize]) -> bool
             mix: _,
             owned: _,
         } => frames as usize <= number_at(positions, 0),
+        _ => false,
     }
 }

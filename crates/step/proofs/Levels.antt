@@ -12,13 +12,15 @@ use Rattle.filters.specs.declared.eq_filter.EqFilterKind.{EqFilterKind}
 use Rattle.effect.specs.VolumeControl.{volumeOf}
 use Rattle.effect.specs.PanningControl.{panningOf}
 use Rattle.effect.specs.Distortion.{distortionOf}
+use Rattle.filters.specs.Filter.{filterOf}
+use Rattle.filters.specs.EqFilter.{eqOf}
 use Rattle.line.specs.Held.{Ran, ran}
 use Rattle.reverb.specs.Reverb.{reverbOf}
 use Rattle.stage.specs.declared.kind.Stage.{Stage}
 use Rattle.stage.specs.declared.kind.Stage.the-variants.{VolumeControl, PanningControl, Distortion, Filter, EqFilter, Reverb, Delay}
 use Rattle.stage.specs.Kind.{stageAt, nextPlace}
 use Rattle.stage.specs.Layout.{sizeOf}
-use Rattle.step.specs.Step.{filterStage, eqStage, delayStage, stageStep, inTurn, spanOf, stepOf, processAt}
+use Rattle.step.specs.Step.{remembering, delayStage, stageStep, inTurn, spanOf, stepOf, processAt}
 
 module _ (rate : ℕ) (inner : Ran → Ran) (r : Ran) where
   pub volume-is : (volume : ℤ) → stageStep rate inner (VolumeControl volume) r ≡ ran (volumeOf volume (r .frame)) (r .held)
@@ -33,11 +35,11 @@ module _ (rate : ℕ) (inner : Ran → Ran) (r : Ran) where
   unfolding stageStep
   distortion-is kind drive mix = refl
 
-  pub filter-is : (mode : FilterMode) (g resonance mix : Float) → stageStep rate inner (Filter mode g resonance mix) r ≡ filterStage mode g resonance mix r
+  pub filter-is : (mode : FilterMode) (g resonance mix : Float) → stageStep rate inner (Filter mode g resonance mix) r ≡ remembering (filterOf mode g resonance mix) r
   unfolding stageStep
   filter-is mode g resonance mix = refl
 
-  pub eq-is : (kind : EqFilterKind) (g : Float) (gain : ℤ) (q : Float) → stageStep rate inner (EqFilter kind g gain q) r ≡ eqStage kind g gain q r
+  pub eq-is : (kind : EqFilterKind) (g : Float) (gain : ℤ) (q : Float) → stageStep rate inner (EqFilter kind g gain q) r ≡ remembering (eqOf kind g q gain) r
   unfolding stageStep
   eq-is kind g gain q = refl
 

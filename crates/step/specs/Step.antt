@@ -7,10 +7,11 @@ use lib.IntN.{ℤ}
 use lib.ListN.{getD, set}
 use lib.Ieee.{Float}
 use Rattle.decibels.specs.Amplitude.{amplitudeOf}
+use Rattle.frame.specs.declared.Frame.{Frame}
 use Rattle.frame.specs.Operations.{addOf, mulOf}
 use Rattle.frame.specs.Mix.{mixOf}
-use Rattle.filters.specs.declared.filter.FilterMode.{FilterMode}
-use Rattle.filters.specs.declared.eq_filter.EqFilterKind.{EqFilterKind}
+use Rattle.integrators.specs.declared.Integrators.{Integrators}
+use Rattle.integrators.specs.declared.Filtered.{Filtered}
 use Rattle.effect.specs.VolumeControl.{volumeOf}
 use Rattle.effect.specs.PanningControl.{panningOf}
 use Rattle.effect.specs.Distortion.{distortionOf}
@@ -26,18 +27,12 @@ use Rattle.stage.specs.Kind.{stageAt, nextPlace}
 use Rattle.stage.specs.Layout.{sizeOf, frontPlaces, backPlaces}
 use Rattle.step.specs.Memory.{remembered, remember}
 
--- ---- a filter and an EQ keep their two frames among the floats
+-- ---- a filter or an EQ: f makes a frame of the two that it remembers and of the next one, and the two that it then remembers stay among the floats
 
-unfoldable pub filterStage : FilterMode → Float → Float → Float → Ran → Ran
-filterStage mode g resonance mix r =
+unfoldable pub remembering : (Integrators → Frame → Filtered) → Ran → Ran
+remembering f r =
     let h = r .held in
-    let done = filterOf mode g resonance mix (remembered (h .floats)) (r .frame) in
-    ran (done .output) (holds (h .store) (h .positions) (remember (done .after) (h .floats)))
-
-unfoldable pub eqStage : EqFilterKind → Float → ℤ → Float → Ran → Ran
-eqStage kind g gain q r =
-    let h = r .held in
-    let done = eqOf kind g q gain (remembered (h .floats)) (r .frame) in
+    let done = f (remembered (h .floats)) (r .frame) in
     ran (done .output) (holds (h .store) (h .positions) (remember (done .after) (h .floats)))
 
 -- ---- a delay: "take the oldest frame, run it through the feedback stages, multiply by the feedback amplitude: this is the wet frame. Store input plus wet. Mix wet with input"
@@ -56,12 +51,12 @@ delayStage frames feedback mix inner r =
 -- ---- a stage, whose feedback stages are `inner`
 
 unfoldable pub stageStep : ℕ → (Ran → Ran) → Stage → Ran → Ran
-unfolding filterStage eqStage delayStage
+unfolding remembering delayStage
 stageStep rate inner (VolumeControl volume) r = ran (volumeOf volume (r .frame)) (r .held)
 stageStep rate inner (PanningControl panning) r = ran (panningOf panning (r .frame)) (r .held)
 stageStep rate inner (Distortion kind drive mix) r = ran (distortionOf kind drive mix (r .frame)) (r .held)
-stageStep rate inner (Filter mode g resonance mix) r = filterStage mode g resonance mix r
-stageStep rate inner (EqFilter kind g gain q) r = eqStage kind g gain q r
+stageStep rate inner (Filter mode g resonance mix) r = remembering (filterOf mode g resonance mix) r
+stageStep rate inner (EqFilter kind g gain q) r = remembering (eqOf kind g q gain) r
 stageStep rate inner (Reverb feedback damping width mix) r = reverbOf rate feedback damping width mix r
 stageStep rate inner (Delay frames feedback mix owned) r = delayStage frames feedback mix inner r
 

@@ -2,9 +2,9 @@
 // stages that it owns have the rest: they are run by a call of `span` with the depth left going down.
 ghost use mathlib.Core.Path.{_≡_};
 ghost use Prim.Native.Nat.{ℕ, _+_, _-_, _≤_, _<_, min};
-ghost use lib.ListN.{getD, set, length};
+ghost use lib.ListN.{set};
 ghost use Rattle.line.specs.Held.{holds, ran};
-ghost use Rattle.step.specs.Step.{filterStage, eqStage, delayStage, stepOf, spanOf};
+ghost use Rattle.step.specs.Step.{delayStage, stepOf, spanOf};
 use crate::memory::keep;
 use crate::memory::recall;
 use decibels::amplitude;
@@ -12,15 +12,14 @@ use effect::distortion;
 use effect::panning_control;
 use effect::volume_control;
 use filters::eq_filter;
-use filters::eq_filter::EqFilterKind;
 use filters::filter;
-use filters::filter::FilterMode;
 use frame::Frame;
 use line::frames::frame_at;
 use line::frames::put_frame;
 use line::position::next_position;
 use stage::kind::Stage;
 use stage::layout::next_place;
+use stage::layout::number_at;
 use stage::layout::size_between;
 
 fn lesser(a: usize, b: usize) -> usize
@@ -29,47 +28,12 @@ fn lesser(a: usize, b: usize) -> usize
     if a < b { a } else { b }
 }
 
-// The first position of a place, and 0 where there is none.
-fn first_position(positions: &[usize]) -> usize
-    ensures { λ r. ⌜ r ≡ getD (now (positions .entry)) 0 0 ⌝ }
-{
-    if 0 < positions.len() {
-        return positions[0];
-    }
-    0
-}
-
 fn put_first(positions: &mut [usize], at: usize)
     ensures { λ _. ⌜ now (positions .exit) ≡ set (now (positions .entry)) 0 at ⌝ }
 {
     if 0 < positions.len() {
         positions[0] = at;
     }
-}
-
-fn filter_stage(
-    x: Frame,
-    mode: FilterMode,
-    g: f64,
-    resonance: f64,
-    mix: f32,
-    floats: &mut [f32],
-) -> Frame
-    ensures { λ r. ⌜ ((s : _) (p : _) → ran r (holds s p (now (floats .exit))) ≡ filterStage mode g resonance mix (ran x (holds s p (now (floats .entry))))) ⌝ }
-{
-    let filtered = filter::process(x, recall(floats), mode, g, resonance, mix);
-    let after = filtered.after;
-    keep(floats, after);
-    filtered.output
-}
-
-fn eq_stage(x: Frame, kind: EqFilterKind, g: f64, gain: i32, q: f64, floats: &mut [f32]) -> Frame
-    ensures { λ r. ⌜ ((s : _) (p : _) → ran r (holds s p (now (floats .exit))) ≡ eqStage kind g gain q (ran x (holds s p (now (floats .entry))))) ⌝ }
-{
-    let filtered = eq_filter::process(x, recall(floats), kind, g, q, gain);
-    let after = filtered.after;
-    keep(floats, after);
-    filtered.output
 }
 
 // The delay at the head of its stretch; its own stages are those from i + 1 up to e.
@@ -96,7 +60,7 @@ fn delay_stage(
     let n = lesser(2 * length, store.len());
     let p = lesser(24, positions.len());
     let f = lesser(20, floats.len());
-    let at = first_position(positions);
+    let at = number_at(positions, 0);
     let oldest = frame_at(&store[..n], at);
     let fed = span(
         rate,
@@ -143,8 +107,14 @@ pub(crate) fn step(
             g,
             resonance,
             mix,
-        } => filter_stage(x, mode, g, resonance, mix, floats),
-        Stage::EqFilter { kind, g, gain, q } => eq_stage(x, kind, g, gain, q, floats),
+        } => keep(
+            filter::process(x, recall(floats), mode, g, resonance, mix),
+            floats,
+        ),
+        Stage::EqFilter { kind, g, gain, q } => keep(
+            eq_filter::process(x, recall(floats), kind, g, q, gain),
+            floats,
+        ),
         Stage::Reverb {
             feedback,
             damping,

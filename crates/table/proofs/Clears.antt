@@ -1,11 +1,11 @@
 -- A call is accepted exactly where no row applies, said of each row in plain logic. Assumes nothing.
 use mathlib.Core.Path.{_≡_, sym, _∙_}
 use mathlib.Core.Logic.{_⊎_, inl, inr, ⊎-elim}
-use mathlib.Core.Bool.{true, false, _||_, true≢false}
+use mathlib.Core.Bool.{true, _||_, true≢false}
 use mathlib.Core.List.{List, [], _∷_, _++_}
-use Prim.Native.Nat.{ℕ, suc, _+_, _*_, _-_, _/_, _%_, _≤_, _<_}
+use Prim.Native.Nat.{ℕ, suc, _/_, _%_, _<_}
 use native.Mathlib.Omega.{arith}
-use native.Mathlib.Decide.{decLe}
+use native.Mathlib.Nat.{lt-of-not-le, le-of-suc-le-suc}
 use lib.Dec.{ltb}
 use lib.ListN.{length, getD}
 use lib.Ieee.{Float, nan}
@@ -13,15 +13,14 @@ use borrow.Author.Tests.{ltb-false, le-ltb, eqb-false, ne-eqb, not-false}
 use Rattle.float.specs.Finite.{finiteOf}
 use Rattle.stage.specs.declared.kind.Stage.{Stage}
 use Rattle.stage.specs.Kind.{stageAt}
-use Rattle.stage.specs.Layout.{startOf, placePositions}
-use Rattle.stage.specs.Lines.{linesOf}
+use Rattle.stage.specs.Layout.{startOf}
 use Rattle.stage.specs.Range.{inRangeOf}
 use Rattle.stage.proofs.Firsts.{none-clear}
 use Rattle.answer.specs.declared.Answer.{Answer}
 use Rattle.answer.specs.declared.Answer.the-variants.{Accepted}
 use Rattle.answer.specs.Answer.{acceptedOf}
 use Rattle.refuse.specs.Shape.{faultyOf}
-use Rattle.refuse.specs.Tops.{topsOf}
+use Rattle.tops.specs.Tops.{topsOf}
 use Rattle.rows.specs.Rows.{Row}
 use Rattle.refuse.specs.Refusals.{outOfRange, lostAt, aheadAt, unrunFrom, badSample, stuckOf, chainRows, blockRows, answerOf}
 use Rattle.table.specs.Table.{Faulty, OutOfRange, Lost, Ahead, BadSample, conditions, Clear}
@@ -37,17 +36,6 @@ refusing : (k : ℕ) (rs : List (Row Answer)) (ps : List (ℕ → Type 0)) → A
 refusing k [] ps t = tt
 refusing k (r ∷ rs) [] t = absurd t
 refusing k (r ∷ rs) (P ∷ ps) t = (t .0 .refusal, refusing (suc k) rs ps (t .1))
-
--- what is not at least, or not above
-below : (a b : ℕ) → (b ≤ a → ⊥) → a < b
-below a b f = go (decLe b a)
-  where
-    go : Dec (b ≤ a) → a < b
-    go (yes h) = absurd (f h)
-    go (no h) = omega arith
-
-at-most : (a b : ℕ) → (b < a → ⊥) → a ≤ b
-at-most a b f = omega (arith, below a (suc b) f)
 
 module _ (rate : ℕ) (l : List Stage) (c floats : ℕ) (samples : List Float) (positions progress order : List ℕ) where
   abbrev frames : ℕ
@@ -87,11 +75,11 @@ module _ (rate : ℕ) (l : List Stage) (c floats : ℕ) (samples : List Float) (
       shapes = none-such (faultyOf l c) (Faulty l c) (faulty-so l c) (faulty-is l c) c (n .1 .1 .0);
       settings = λ i h. not-false (inRangeOf (stageAt l i)) (none-clear (outOfRange l) c (n .1 .1 .1 .0) i h);
       room = ltb-false floats (startOf rate l c) (n .1 .1 .1 .1 .0);
-      found = λ i j h g. below (getD positions (placePositions * i + j) 0) (getD (linesOf rate (stageAt l i)) j 0) (λ q. never-lost i h (j, g, q));
+      found = λ i j h g. lt-of-not-le (λ q. never-lost i h (j, g, q));
       even = omega (arith, eqb-false (length samples % 2) 1 (n .1 .1 .1 .1 .1 .1 .0));
       short = ltb-false 4096 frames (n .1 .1 .1 .1 .1 .1 .1 .0);
-      within = λ k h. at-most (getD progress k 0) frames (λ q. never-ahead k h (inl q));
-      falls = λ k h g. at-most (getD progress k 0) (getD progress (k - 1) 0) (λ q. never-ahead k h (inr (g, q)));
+      within = λ k h. le-of-suc-le-suc (lt-of-not-le (λ q. never-ahead k h (inl q)));
+      falls = λ k h g. le-of-suc-le-suc (lt-of-not-le (λ q. never-ahead k h (inr (g, q))));
       finite = λ i h g. ⊎-elim (λ q. q) (λ q. absurd (never-bad i g (h, q))) (true-or-false (finiteOf (getD samples i nan)));
       runs = runs-so tops frames progress order (ltb-false stuck (length order) (n .1 .1 .1 .1 .1 .1 .1 .1 .1 .1 .0));
     }

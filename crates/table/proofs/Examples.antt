@@ -20,7 +20,7 @@ use Rattle.stage.specs.Layout.{startOf}
 use Rattle.stage.specs.Lines.{lostOf}
 use Rattle.answer.specs.Answer.{numberOf, placeOf}
 use Rattle.refuse.specs.Shape.{faultyOf}
-use Rattle.refuse.specs.Tops.{topsOf}
+use Rattle.tops.specs.Tops.{topsOf}
 use Rattle.refuse.specs.Refusals.{stuckOf, answerOf}
 
 -- what a call answers, as its number and place: of some stages and floats, from positions and progress of zero
@@ -52,53 +52,48 @@ abbrev pub none : ℕ → List ℕ → List ℕ
 none rate order = told rate [] 0 [] order
 
 pub none-accepted : none 48000 [] ≡ accepted
-unfolding answerOf numberOf placeOf firstFrom startOf topsOf stuckOf
+unfolding answerOf firstFrom startOf topsOf stuckOf
 none-accepted = refl
 
 pub none-entry : (k : ℕ) (ks : List ℕ) → none 48000 (k ∷ ks) ≡ given 11 0
-unfolding answerOf numberOf placeOf firstFrom startOf topsOf stuckOf
+unfolding answerOf firstFrom startOf topsOf stuckOf
 none-entry k ks = rw (le-ltb k 0 (omega arith), lt-ltb 0 (length (k ∷ ks)) (omega arith))
 
 -- ---- "rate 7,999 and 192,001 refused, 8,000 and 192,000 taken"
 pub rate-7999 : none 7999 [] ≡ given 1 0
-unfolding answerOf numberOf placeOf
+unfolding answerOf
 rate-7999 = refl
 
 pub rate-192001 : none 192001 [] ≡ given 1 0
-unfolding answerOf numberOf placeOf
+unfolding answerOf
 rate-192001 = refl
 
 pub rate-8000 : none 8000 [] ≡ accepted
-unfolding answerOf numberOf placeOf firstFrom startOf topsOf stuckOf
+unfolding answerOf firstFrom startOf topsOf stuckOf
 rate-8000 = refl
 
 pub rate-192000 : none 192000 [] ≡ accepted
-unfolding answerOf numberOf placeOf firstFrom startOf topsOf stuckOf
+unfolding answerOf firstFrom startOf topsOf stuckOf
 rate-192000 = refl
 
 -- ---- "one reverb at 44,100 needs 25,450 floats: 25,449 gives refusal 5 with place 25,450"
 pub reverb-25449 : told 44100 (reverb ∷ []) 25449 [] [] ≡ given 5 25450
-unfolding answerOf numberOf placeOf faultyOf ownedOf firstFrom inRangeOf literal le finiteOf startOf reverbFloats
+unfolding answerOf faultyOf ownedOf firstFrom inRangeOf literal le finiteOf startOf reverbFloats
 reverb-25449 = refl
 
 pub reverb-25450 : told 44100 (reverb ∷ []) 25450 [] [] ≡ accepted
-unfolding answerOf numberOf placeOf faultyOf ownedOf firstFrom inRangeOf literal le finiteOf startOf reverbFloats lostOf reverbLines topsOf nextPlace stuckOf
+unfolding answerOf faultyOf ownedOf firstFrom inRangeOf literal le finiteOf startOf reverbFloats lostOf reverbLines topsOf nextPlace stuckOf
 reverb-25450 = refl
-
--- ---- a delay of a frame too many
-pub delay-480001 : told 44100 (delay 480001 0 ∷ []) 960002 [] [] ≡ given 4 0
-unfolding answerOf numberOf placeOf faultyOf ownedOf firstFrom inRangeOf
-delay-480001 = refl
 
 -- ---- a wrong shape: owned stages that no list can have; and a depth of 4, where 3 is taken
 pub owned-most : told 44100 (delay 1 18446744073709551615 ∷ []) 2 [] [] ≡ given 3 0
-unfolding answerOf numberOf placeOf faultyOf ownedOf firstFrom
+unfolding answerOf faultyOf ownedOf firstFrom
 owned-most = refl
 
 pub depth-3 : told 44100 (delay 1 3 ∷ delay 1 2 ∷ delay 1 1 ∷ volume ∷ []) 6 [] [] ≡ accepted
-unfolding answerOf numberOf placeOf faultyOf ownedOf firstFrom inRangeOf startOf lostOf topsOf nextPlace finiteOf stuckOf
+unfolding answerOf faultyOf ownedOf firstFrom inRangeOf startOf lostOf topsOf nextPlace finiteOf stuckOf
 depth-3 = refl
 
 pub depth-4 : told 44100 (delay 1 4 ∷ delay 1 3 ∷ delay 1 2 ∷ delay 1 1 ∷ volume ∷ []) 8 [] [] ≡ given 3 4
-unfolding answerOf numberOf placeOf faultyOf ownedOf firstFrom
+unfolding answerOf faultyOf ownedOf firstFrom
 depth-4 = refl

@@ -56,7 +56,7 @@ later {k} {P} {ps} {answer} not-here h = record { n = suc (h .n); number = omega
     first (suc j) place g q = h .first j place (omega arith) q
 
 pub hits : (k : ℕ) (rs : List (Row Answer)) (ps : List (ℕ → Type 0)) → AllTell k rs ps → acceptedOf (firstRow rs Accepted) ≡ false → Hits k ps (firstRow rs Accepted)
-unfolding firstRow acceptedOf
+unfolding firstRow
 hits k [] [] t h = absurd (false≢true (sym h))
 hits k [] (P ∷ ps) t h = absurd t
 hits k (r ∷ rs) [] t h = absurd t

@@ -18,7 +18,7 @@ use Rattle.stage.specs.declared.kind.Stage.the-variants.{VolumeControl, Panning
 use Rattle.stage.specs.First.{firstOf, some}
 use Rattle.stage.specs.Kind.{stageAt}
 use Rattle.stage.specs.Layout.{placePositions}
-use Rattle.stage.specs.Lines.{linesOf, lostFrom, lostOf}
+use Rattle.stage.specs.Lines.{linesOf, offLine, lostFrom, lostOf}
 use Rattle.stage.specs.Range.{inRangeOf}
 use Rattle.stage.proofs.Firsts.{first-is, first-clear, some-hit, some-less, some-so, none-clear}
 use Rattle.refuse.specs.Shape.{lastOf, ownsOf, outgrows, depthOf, faultyOf}
@@ -114,7 +114,7 @@ module _ (rate : ℕ) where
     position-at j h = let few : j < 24 = omega (arith, lines-few (stageAt l i)) in rw (getD-take, getD-drop)
 
     abbrev off : ℕ → Bool
-    off j = leb (getD lines j 0) (getD (part (placePositions * i) placePositions positions) j 0)
+    off = offLine lines (part (placePositions * i) placePositions positions)
 
     pub lost-so : lostAt rate l positions i ≡ true → Lost rate l positions i
     unfolding lostOf lostFrom

@@ -3,7 +3,7 @@ use mathlib.Core.Path.{_≡_, refl, ap, sym, _∙_}
 use mathlib.Core.Logic.{⊎-elim}
 use mathlib.Core.Bool.{Bool, true, false}
 use mathlib.Core.List.{List, _++_}
-use Prim.Native.Nat.{ℕ, zero, suc, _+_, _/_, _%_, _<_}
+use Prim.Native.Nat.{ℕ, zero, suc, _/_, _%_, _<_}
 use native.Mathlib.Omega.{arith}
 use native.Mathlib.Decide.{decLt}
 use lib.Dec.{ltb}
@@ -17,7 +17,7 @@ use Rattle.answer.specs.declared.Answer.{Answer}
 use Rattle.answer.specs.declared.Answer.the-variants.{Accepted, Entry}
 use Rattle.answer.specs.Answer.{numberOf, placeOf, acceptedOf}
 use Rattle.refuse.specs.Shape.{faultyOf}
-use Rattle.refuse.specs.Tops.{topsOf}
+use Rattle.tops.specs.Tops.{topsOf}
 use Rattle.rows.specs.Rows.{Row, row, firstRow}
 use Rattle.refuse.specs.Refusals.{outOfRange, lostAt, aheadAt, unrunFrom, badSample, stuckOf, chainRows, blockRows, chainAnswer, answerOf}
 use Rattle.table.specs.Table.{First, Faulty, OutOfRange, Lost, Ahead, BadSample, Stuck, chainConditions, blockConditions, conditions, Applies, Given, ByTheTable}
@@ -37,7 +37,6 @@ module _ {k : ℕ} {answer : Answer} (number : numberOf answer ≡ k) (refusal :
 -- ---- row by row
 module _ (rate : ℕ) (l : List Stage) (c : ℕ) where
   chain-tells : (floats : ℕ) → AllTell 1 (chainRows rate l c floats) (chainConditions rate l c floats)
-  unfolding numberOf placeOf acceptedOf
   chain-tells floats = (
     plain-row refl refl refl (either-so rate 8000 192000 rate) (either-is rate 8000 192000 rate),
     (
@@ -69,14 +68,12 @@ module _ (rate : ℕ) (l : List Stage) (c : ℕ) where
     stuck = stuckOf tops frames progress order
 
     stuck-row : Tells 11 (row (ltb stuck (length order)) (Entry stuck)) (Stuck tops frames progress order)
-    unfolding numberOf placeOf acceptedOf
     stuck-row = record { number = refl; refusal = refl; so = λ h. stuck-so tops frames progress order (ltb-true stuck (length order) h); only = only }
       where
         only : (p : ℕ) → Stuck tops frames progress order p → (ltb stuck (length order) ≡ true) × (stuck ≡ p)
         only p h = let e = stuck-is tops frames progress order p h in (lt-ltb stuck (length order) (omega (arith, h .inside)), e)
 
     block-tells : AllTell 6 (blockRows rate l c samples positions progress order) (blockConditions rate l c samples positions progress order)
-    unfolding numberOf placeOf acceptedOf
     block-tells = (
       first-row refl refl (lostAt rate l positions) (Lost rate l positions) (lost-so rate l positions) (lost-is rate l positions) c refl,
       (

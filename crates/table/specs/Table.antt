@@ -17,7 +17,7 @@ use Rattle.stage.specs.Range.{inRangeOf}
 use Rattle.answer.specs.declared.Answer.{Answer}
 use Rattle.answer.specs.Answer.{numberOf, placeOf, acceptedOf}
 use Rattle.refuse.specs.Shape.{lastOf, depthOf}
-use Rattle.refuse.specs.Tops.{topsOf}
+use Rattle.tops.specs.Tops.{topsOf}
 use Rattle.refuse.specs.Refusals.{unrunFrom}
 
 -- k is the first number below n with P

@@ -4,7 +4,7 @@ use Prim.Native.Nat.{_-_}
 use native.Mathlib.Omega.{arith}
 use lib.ListN.{length, getD, replicate}
 use borrow.Author.Needs.{needs}
-use Rattle.refuse.proofs.TopStages.{tops-le-16}
+use Rattle.tops.proofs.TopStages.{tops-le-16}
 use Rattle.chain.specs.Chain.{framesOf, state}
 use Rattle.chain.proofs.Turns.{Left, left-first, left-ready, left-may, end-turn, end-moved, end-next, end-last}
 use Rattle.chain.proofs.advance.advance_to_end.Statement.{statement}

@@ -1,15 +1,16 @@
-use mathlib.Core.Path.{_≡_, sym, ap, _∙_}
+-- `render::render` meets its contract: an accepted call can be run, and every stage is, to the last frame. Assumes nothing.
+use mathlib.Core.Path.{sym, ap, _∙_}
 use mathlib.Core.List.{[]}
 use borrow.Author.Needs.{needs}
 use denote.Ref.{now}
 use lib.Ieee.{Float}
-use lib.ListN.{length}
 use Rattle.line.specs.Held.{Held}
 use Rattle.order.specs.Chain.{State}
 use Rattle.answer.specs.Answer.{acceptedOf}
+use Rattle.tops.proofs.TopStages.{tops-found, places-found}
 use Rattle.chain.specs.Chain.{state}
 use Rattle.chain.specs.Demands.{Arrays, Taken}
-use Rattle.chain.proofs.Running.{CanRun, can-run, places-are, number-is, rendered, not-rendered}
+use Rattle.chain.proofs.Running.{can-run, rendered-is, rendered-not}
 use Rattle.chain.proofs.render.render.Statement.{statement}
 use Rattle.chain.proofs.render.render.Tie as tie
 
@@ -54,7 +55,7 @@ finish-requires c κs =
     let z = d .before .before .before .before .before .before .before .before in
     let a = z .args in
     let w = can-run (a .rate) (a .stages) (a .count) (block z) [] (arrays z) (passed d) in
-    ((w .few, u .before .starts-of .ensures, places-are (a .rate) (a .stages) (a .count) (block z) (u .tops-of .result) (w .all) (u .tops-of .ensures)), (number-is (a .rate) (a .stages) (a .count) (block z) (u .tops-of .result) (w .all) (u .tops-of .ensures), w .can))
+    ((w .few, u .before .starts-of .ensures, places-found (a .stages) (w .few) (u .tops-of .ensures)), (tops-found (a .stages) (w .few) (u .tops-of .ensures), w .can))
 
 same-length : tie.Need-same-length
 same-length c = search needs
@@ -68,7 +69,7 @@ returns c =
     let d = c .before .before .before .before .before .before .before .before .before .before .before .before .before .before .before .before .before .before in
     let z = d .before .before .before .before .before .before .before .before in
     let a = z .args in
-    (d .before .before .refusal .ensures, c .before .before .before .before .before .before .finish .ensures ∙ rendered (a .rate) (a .stages) (a .count) (block z) (passed d))
+    (d .before .before .refusal .ensures, c .before .before .before .before .before .before .finish .ensures ∙ sym (rendered-is (a .rate) (a .stages) (a .count) (block z) (passed d)))
 
 same-length-3 : tie.Need-same-length-3
 same-length-3 c = search needs
@@ -78,7 +79,22 @@ unfolding block
 returns-2 c =
     let z = c .before .before .before .before .before .before .before .before in
     let a = z .args in
-    (c .before .before .refusal .ensures, not-rendered (a .rate) (a .stages) (a .count) (block z) (ap acceptedOf (sym (c .before .before .refusal .ensures)) ∙ sym (c .before .is-accepted .ensures) ∙ c .if1 .left))
+    (c .before .before .refusal .ensures, sym (rendered-not (a .rate) (a .stages) (a .count) (block z) (ap acceptedOf (sym (c .before .before .refusal .ensures)) ∙ sym (c .before .is-accepted .ensures) ∙ c .if1 .left)))
 
 pub render-spec : {M : Type 1} → statement M
-render-spec = tie.close (tie.spec slice-aggregate-refusal refusal-requires is-accepted-requires starts-of-requires tops-of-requires slice-aggregate-finish slice-aggregate-finish-2 finish-requires same-length same-length-2 returns same-length-3 returns-2)
+render-spec =
+    tie.close
+    (tie.spec
+    slice-aggregate-refusal
+    refusal-requires
+    is-accepted-requires
+    starts-of-requires
+    tops-of-requires
+    slice-aggregate-finish
+    slice-aggregate-finish-2
+    finish-requires
+    same-length
+    same-length-2
+    returns
+    same-length-3
+    returns-2)

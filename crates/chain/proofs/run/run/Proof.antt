@@ -1,14 +1,15 @@
-use mathlib.Core.Path.{_≡_, sym, ap, _∙_}
+-- `run::run` meets its contract: an accepted call can be run, and its order is. Assumes nothing.
+use mathlib.Core.Path.{sym, ap, _∙_}
 use borrow.Author.Needs.{needs}
 use denote.Ref.{now}
 use lib.Ieee.{Float}
-use lib.ListN.{length}
 use Rattle.line.specs.Held.{Held}
 use Rattle.order.specs.Chain.{State}
 use Rattle.answer.specs.Answer.{acceptedOf}
+use Rattle.tops.proofs.TopStages.{places-found}
 use Rattle.chain.specs.Chain.{state}
 use Rattle.chain.specs.Demands.{Arrays, Taken}
-use Rattle.chain.proofs.Running.{CanRun, can-run, places-are, ran, not-ran}
+use Rattle.chain.proofs.Running.{can-run, left-is, left-not}
 use Rattle.chain.proofs.run.run.Statement.{statement}
 use Rattle.chain.proofs.run.run.Tie as tie
 
@@ -50,7 +51,7 @@ advance-all-requires c κs =
     let z = d .before .before .before .before .before .before .before .before in
     let a = z .args in
     let w = can-run (a .rate) (a .stages) (a .count) (block z) (now (a .order)) (arrays z) (passed d) in
-    ((w .few, u .before .starts-of .ensures, places-are (a .rate) (a .stages) (a .count) (block z) (u .tops-of .result) (w .all) (u .tops-of .ensures)), (w .can, w .runs))
+    ((w .few, u .before .starts-of .ensures, places-found (a .stages) (w .few) (u .tops-of .ensures)), (w .can, w .runs))
 
 same-length : tie.Need-same-length
 same-length c = search needs
@@ -64,7 +65,7 @@ returns c =
     let d = c .before .before .before .before .before .before .before .before .before .before .before .before .before .before .before .before .before .before in
     let z = d .before .before .before .before .before .before .before .before in
     let a = z .args in
-    (d .before .before .refusal .ensures, c .before .before .before .before .before .before .advance-all .ensures ∙ ran (a .rate) (a .stages) (a .count) (block z) (now (a .order)) (passed d))
+    (d .before .before .refusal .ensures, c .before .before .before .before .before .before .advance-all .ensures ∙ sym (left-is (a .rate) (a .stages) (a .count) (block z) (now (a .order)) (passed d)))
 
 same-length-3 : tie.Need-same-length-3
 same-length-3 c = search needs
@@ -74,7 +75,21 @@ unfolding block
 returns-2 c =
     let z = c .before .before .before .before .before .before .before .before in
     let a = z .args in
-    (c .before .before .refusal .ensures, not-ran (a .rate) (a .stages) (a .count) (block z) (now (a .order)) (ap acceptedOf (sym (c .before .before .refusal .ensures)) ∙ sym (c .before .is-accepted .ensures) ∙ c .if1 .left))
+    (c .before .before .refusal .ensures, sym (left-not (a .rate) (a .stages) (a .count) (block z) (now (a .order)) (ap acceptedOf (sym (c .before .before .refusal .ensures)) ∙ sym (c .before .is-accepted .ensures) ∙ c .if1 .left)))
 
 pub run-spec : {M : Type 1} → statement M
-run-spec = tie.close (tie.spec refusal-requires is-accepted-requires starts-of-requires tops-of-requires slice-aggregate-advance-all slice-aggregate-advance-all-2 advance-all-requires same-length same-length-2 returns same-length-3 returns-2)
+run-spec =
+    tie.close
+    (tie.spec
+    refusal-requires
+    is-accepted-requires
+    starts-of-requires
+    tops-of-requires
+    slice-aggregate-advance-all
+    slice-aggregate-advance-all-2
+    advance-all-requires
+    same-length
+    same-length-2
+    returns
+    same-length-3
+    returns-2)

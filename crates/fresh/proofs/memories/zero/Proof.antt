@@ -1,3 +1,4 @@
+-- `memories::zero` meets its contract: the source's literals are the definition's. Assumes nothing.
 use mathlib.Core.Path.{refl}
 use lib.Ieee.{ofBits, round}
 use Rattle.float.specs.Literal.{literal}

@@ -1,4 +1,5 @@
-use mathlib.Core.Path.{_≡_, refl, sym, ap, _∙_}
+-- `start::clear` meets its contract: the first i floats are cleared. The measure is n - i. Assumes nothing.
+use mathlib.Core.Path.{_≡_, refl, ap, _∙_}
 use Prim.Native.Nat.{_≤_, _-_}
 use native.Mathlib.Omega.{arith}
 use lib.Ieee.{binary32, ofBits, round}
@@ -51,4 +52,16 @@ returns c =
     c .before .loop .inv .2 ∙ ap (λ n. clearedTo n (c .before .before .args .store .now)) e
 
 pub clear-spec : {M : Type 1} → statement M
-clear-spec = tie.close (tie.spec Inv-loop μ-loop loop-holds mul-store slice-write-store add-i loop-less loop-again same-length returns)
+clear-spec =
+    tie.close
+    (tie.spec
+    Inv-loop
+    μ-loop
+    loop-holds
+    mul-store
+    slice-write-store
+    add-i
+    loop-less
+    loop-again
+    same-length
+    returns)

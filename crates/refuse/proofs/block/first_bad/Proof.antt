@@ -1,28 +1,22 @@
--- `block::first_bad` meets its contract. Below `from` no sample counts as bad, so the loop's invariant: the first from i on is the first of all. The measure is what is left to look at. Assumes nothing.
-use mathlib.Core.Path.{_≡_, sym, _∙_}
+-- `block::first_bad` meets its contract: below `from` no sample counts as bad, and it has looked at those below i. The measure is what is left to look at. Assumes nothing.
 use Prim.Native.Nat.{_-_, _≤_}
 use native.Mathlib.Omega.{arith}
-use borrow.Author.Needs.{needs}
-use Rattle.stage.specs.First.{firstFrom, firstOf}
 use lib.ListN.{length}
+use borrow.Author.Needs.{needs}
 use borrow.Author.Tests.{le-leb, lt-leb}
-use denote.Ref.{now}
-use Rattle.stage.proofs.Firsts.{passed, look-hit, look-miss, look-end}
+use Rattle.stage.proofs.Firsts.{Looked, look-on, look-found, look-over}
 use Rattle.refuse.specs.Refusals.{badSample}
 use Rattle.refuse.proofs.block.first_bad.Statement.{statement}
 use Rattle.refuse.proofs.block.first_bad.Tie as tie
 
 abbrev Inv-loop : tie.InvT-loop
-Inv-loop samples from i₀ i =
-    (from ≤ i) × (i ≤ length samples) × (firstFrom (badSample from samples) (length samples - i) i ≡ firstOf (badSample from samples) (length samples))
+Inv-loop samples from i₀ i = (from ≤ i) × Looked (badSample from samples) (length samples) i
 
 abbrev μ-loop : tie.MeasureT-loop
 μ-loop samples from i₀ i = length samples - i
 
 loop-holds : tie.Need-loop-holds Inv-loop μ-loop
-loop-holds c =
-    let a = c .before .args in
-    (omega arith, c .before .pre, passed (badSample (a .from) (now (a .samples))) (length (now (a .samples))) (a .from) (c .before .pre) (λ j h. rw (lt-leb (a .from) j h)))
+loop-holds c = (omega arith, record { within = c .before .pre; clear = λ j h. rw (lt-leb (c .before .args .from) j h) })
 
 mul-is-finite-f32 : tie.Need-mul-is-finite-f32 Inv-loop μ-loop
 mul-is-finite-f32 c = search needs
@@ -35,9 +29,8 @@ is-finite-f32-requires c κs = search needs
 
 returns : tie.Need-returns Inv-loop μ-loop
 returns c =
-    let a = c .before .before .before .before .before .before .args in
     let at = c .before .before .before .before .loop in
-    sym (look-hit (badSample (a .from) (now (a .samples))) (length (now (a .samples))) (at .i) (omega arith) (rw (le-leb (a .from) (at .i) (at .inv .0), ← c .before .is-finite-f32 .ensures) (c .if1 .taken))) ∙ at .inv .2
+    look-found (at .inv .1) (omega arith) (rw (le-leb _ (at .i) (at .inv .0), ← c .before .is-finite-f32 .ensures) (c .if1 .taken))
 
 add-i : tie.Need-add-i Inv-loop μ-loop
 add-i c = search needs
@@ -47,15 +40,11 @@ loop-less c = search needs
 
 loop-again : tie.Need-loop-again Inv-loop μ-loop
 loop-again c =
-    let a = c .before .before .before .before .before .before .args in
     let at = c .before .before .before .before .loop in
-    (omega arith, omega arith, sym (look-miss (badSample (a .from) (now (a .samples))) (length (now (a .samples))) (at .i) (omega arith) (rw (le-leb (a .from) (at .i) (at .inv .0), ← c .before .is-finite-f32 .ensures) (c .if1 .left))) ∙ at .inv .2)
+    (omega arith, look-on (at .inv .1) (omega arith) (rw (le-leb _ (at .i) (at .inv .0), ← c .before .is-finite-f32 .ensures) (c .if1 .left)))
 
 returns-2 : tie.Need-returns-2 Inv-loop μ-loop
-returns-2 c =
-    let a = c .before .before .before .args in
-    let at = c .before .loop in
-    sym (look-end (badSample (a .from) (now (a .samples))) (length (now (a .samples))) (at .i) (omega arith)) ∙ at .inv .2
+returns-2 c = look-over (c .before .loop .inv .1) (omega arith)
 
 pub first-bad-spec : {M : Type 1} → statement M
 first-bad-spec =

@@ -1,35 +1,31 @@
--- `block::first_lost` meets its contract. The loop's invariant: the first from i on is the first of all. The measure is what is left to look at. Assumes nothing.
+-- `block::first_lost` meets its contract: it has looked at the stages below i. The measure is what is left to look at. Assumes nothing.
 use mathlib.Core.Path.{_≡_, ap, sym, _∙_}
 use mathlib.Core.List.{List}
-use Prim.Native.Nat.{ℕ, _+_, _*_, _-_, _≤_}
+use Prim.Native.Nat.{ℕ, _+_, _*_, _-_}
 use native.Mathlib.Omega.{arith}
-use borrow.Author.Needs.{needs}
-use Rattle.stage.specs.First.{firstFrom, firstOf}
 use lib.ListN.{take, drop}
 use denote.Ref.{now}
-use Rattle.stage.specs.declared.kind.Stage.{Stage}
+use borrow.Author.Needs.{needs}
+use Rattle.order.specs.Stretch.{part}
 use Rattle.stage.specs.Kind.{stageAt}
 use Rattle.stage.specs.Lines.{lostOf}
-use Rattle.stage.proofs.Firsts.{look-start, look-hit, look-miss, look-end}
+use Rattle.stage.proofs.Firsts.{Looked, look-start, look-on, look-found, look-over}
 use Rattle.refuse.specs.Refusals.{lostAt}
 use Rattle.refuse.proofs.block.first_lost.Statement.{statement}
 use Rattle.refuse.proofs.block.first_lost.Tie as tie
 
 abbrev Inv-loop : tie.InvT-loop
-Inv-loop rate count positions stages i₀ i =
-    (i ≤ count) × (firstFrom (lostAt rate stages positions) (count - i) i ≡ firstOf (lostAt rate stages positions) count)
+Inv-loop rate count positions stages i₀ i = Looked (lostAt rate stages positions) count i
 
 abbrev μ-loop : tie.MeasureT-loop
 μ-loop rate count positions stages i₀ i = count - i
 
 -- the positions of the place i, as they are cut out
-cut : (rate : ℕ) (l : List Stage) (positions : List ℕ) (i : ℕ) → lostAt rate l positions i ≡ lostOf rate (stageAt l i) (take (24 * i + 24 - 24 * i) (drop (24 * i) positions))
-cut rate l positions i = let z : 24 ≡ 24 * i + 24 - 24 * i = omega arith in ap (λ (n : ℕ). lostOf rate (stageAt l i) (take n (drop (24 * i) positions))) z
+cut : (i : ℕ) (positions : List ℕ) → part (24 * i) 24 positions ≡ take (24 * i + 24 - 24 * i) (drop (24 * i) positions)
+cut i positions = let z : 24 ≡ 24 * i + 24 - 24 * i = omega arith in ap (λ (n : ℕ). take n (drop (24 * i) positions)) z
 
 loop-holds : tie.Need-loop-holds Inv-loop μ-loop
-loop-holds c =
-    let a = c .before .args in
-    (omega arith, look-start (lostAt (a .rate) (a .t2) (now (a .positions))) (a .count))
+loop-holds c = look-start
 
 mul-stage : tie.Need-mul-stage Inv-loop μ-loop
 mul-stage c = search needs
@@ -62,7 +58,7 @@ returns : tie.Need-returns Inv-loop μ-loop
 returns c =
     let a = c .before .before .before .before .before .before .before .args in
     let at = c .before .before .before .before .before .loop in
-    sym (look-hit (lostAt (a .rate) (a .t2) (now (a .positions))) (a .count) (at .i) (omega arith) (cut (a .rate) (a .t2) (now (a .positions)) (at .i) ∙ sym (c .before .is-lost .ensures) ∙ c .if1 .taken)) ∙ at .inv .1
+    look-found (at .inv) (omega arith) (ap (lostOf (a .rate) (stageAt (a .t2) (at .i))) (cut (at .i) (now (a .positions))) ∙ sym (c .before .is-lost .ensures) ∙ c .if1 .taken)
 
 add-i : tie.Need-add-i Inv-loop μ-loop
 add-i c = search needs
@@ -74,13 +70,10 @@ loop-again : tie.Need-loop-again Inv-loop μ-loop
 loop-again c =
     let a = c .before .before .before .before .before .before .before .args in
     let at = c .before .before .before .before .before .loop in
-    (omega arith, sym (look-miss (lostAt (a .rate) (a .t2) (now (a .positions))) (a .count) (at .i) (omega arith) (cut (a .rate) (a .t2) (now (a .positions)) (at .i) ∙ sym (c .before .is-lost .ensures) ∙ c .if1 .left)) ∙ at .inv .1)
+    look-on (at .inv) (omega arith) (ap (lostOf (a .rate) (stageAt (a .t2) (at .i))) (cut (at .i) (now (a .positions))) ∙ sym (c .before .is-lost .ensures) ∙ c .if1 .left)
 
 returns-2 : tie.Need-returns-2 Inv-loop μ-loop
-returns-2 c =
-    let a = c .before .before .before .args in
-    let at = c .before .loop in
-    sym (look-end (lostAt (a .rate) (a .t2) (now (a .positions))) (a .count) (at .i) (omega arith)) ∙ at .inv .1
+returns-2 c = look-over (c .before .loop .inv) (omega arith)
 
 pub first-lost-spec : {M : Type 1} → statement M
 first-lost-spec =

@@ -1,11 +1,12 @@
 -- `layout::starts_of` meets its contract. The loop's invariant: the starts up to place i stand, and the last of them is at most i times what one stage can have. The measure is 16 - i. Assumes nothing.
-use mathlib.Core.Path.{_≡_, refl}
+use mathlib.Core.Path.{_≡_, refl, _∙_}
 use Prim.Native.Nat.{ℕ, _+_, _*_, _-_, _≤_, _<_}
 use native.Mathlib.Omega.{arith}
 use lib.ListN.{length, getD, length-set}
 use borrow.Author.Needs.{needs}
 use Rattle.stage.specs.Layout.{startOf}
-use Rattle.stage.proofs.Starts.{start-more, starts-more, starts-filled}
+use Rattle.stage.proofs.Listed.{listed-more, listed-all}
+use Rattle.stage.proofs.Starts.{start-more, starts-are}
 use Rattle.stage.proofs.layout.starts_of.Statement.{statement}
 use Rattle.stage.proofs.layout.starts_of.Tie as tie
 
@@ -62,12 +63,14 @@ loop-again c =
     let more = start-more (start .args .rate) (start .args .t2) (at .i) in (
       omega arith,
       simp length-set (at .inv .1),
-      starts-more (start .args .rate) (start .args .t2) (at .starts) (at .inv .1) (at .i + 1) _ (omega arith) (at .inv .2) (omega (arith, more, at .inv .2 (at .i) (omega arith), c .floats-of .ensures .0)),
+      listed-more (startOf (start .args .rate) (start .args .t2)) 0 (at .starts) (at .i + 1) _ (omega (arith, at .inv .1)) (at .inv .2) (omega (arith, more, at .inv .2 (at .i) (omega arith), c .floats-of .ensures .0)),
       omega (arith, more, at .inv .3, c .floats-of .ensures .0, c .floats-of .ensures .1),
     )
 
 returns : tie.Need-returns Inv-loop μ-loop
-returns c = starts-filled (c .before .before .args .rate) (c .before .before .args .t2) (c .before .loop .starts) (c .before .loop .inv .1) (λ k h. c .before .loop .inv .2 k (omega arith))
+returns c =
+    let a = c .before .before .args in
+    listed-all (startOf (a .rate) (a .t2)) 0 (c .before .loop .starts) 17 (c .before .loop .inv .1) (λ k h. c .before .loop .inv .2 k (omega arith)) ∙ starts-are (a .rate) (a .t2)
 
 pub starts-of-spec : {M : Type 1} → statement M
 starts-of-spec =

@@ -1,4 +1,5 @@
 -- `memory::keep` meets its contract: the second frame is put where the first is already in place. Assumes nothing.
+use mathlib.Core.Path.{refl}
 use borrow.Author.Needs.{needs}
 use Rattle.step.specs.Memory.{remember}
 use Rattle.step.proofs.memory.keep.Statement.{statement}
@@ -15,7 +16,7 @@ same-length c = search needs
 
 returns : tie.Need-returns
 unfolding remember
-returns c = let second = c .before .before in rw (second .put-frame2 .ensures, second .before .before .before .before .put-frame .ensures)
+returns c = let second = c .before .before .before in (refl, rw (second .put-frame2 .ensures, second .before .before .before .before .put-frame .ensures))
 
 pub keep-spec : {M : Type 1} → statement M
 keep-spec = tie.close (tie.spec put-frame-requires put-frame-requires-2 same-length returns)

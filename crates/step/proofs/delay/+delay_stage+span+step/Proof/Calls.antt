@@ -16,6 +16,8 @@ use Rattle.decibels.proofs.amplitude.Reads as amplitude-reads
 use Rattle.effect.proofs.distortion.process.Reads as distortion-reads
 use Rattle.effect.proofs.panning_control.process.Reads as panning-reads
 use Rattle.effect.proofs.volume_control.process.Reads as volume-reads
+use Rattle.filters.proofs.eq_filter.process.Reads as eq-filter-reads
+use Rattle.filters.proofs.filter.process.Reads as filter-reads
 use Rattle.frame.proofs.Frame.add.Reads as add-reads
 use Rattle.frame.proofs.Frame.mixed.Reads as mixed-reads
 use Rattle.frame.proofs.Frame.mul.Reads as mul-reads
@@ -24,12 +26,12 @@ use Rattle.line.proofs.frames.put_frame.Reads as put-frame-reads
 use Rattle.line.proofs.position.next_position.Reads as next-position-reads
 use Rattle.reverb.proofs.process.Reads as reverb-reads
 use Rattle.stage.proofs.layout.next_place.Reads as next-place-reads
+use Rattle.stage.proofs.layout.number_at.Reads as number-at-reads
 use Rattle.stage.proofs.layout.size_between.Reads as size-between-reads
-use Rattle.step.proofs.delay.eq_stage.Reads as eq-stage-reads
-use Rattle.step.proofs.delay.filter_stage.Reads as filter-stage-reads
-use Rattle.step.proofs.delay.first_position.Reads as first-position-reads
 use Rattle.step.proofs.delay.lesser.Reads as lesser-reads
 use Rattle.step.proofs.delay.put_first.Reads as put-first-reads
+use Rattle.step.proofs.memory.keep.Reads as keep-reads
+use Rattle.step.proofs.memory.recall.Reads as recall-reads
 
 abbrev pub μ-delay-stage : Measures 4 delay-stage-kinds.ps ℕ
 μ-delay-stage κs a = 3 * (a .1 .1 .1 .1 .0 - a .1 .1 .1 .0)
@@ -59,10 +61,10 @@ abbrev pub step-below : ℕ → In 4 step-kinds.ps
 step-below t = and 4 step-kinds.ps (falls 4 step-kinds.ps _<_ μ-step t) step.Pre
 
 abbrev pub delay-stage-calls : ℕ → delay-stage-lts.Claims
-delay-stage-calls t = (lesser-reads.Asked, lesser-reads.Learnt, first-position-reads.Asked, first-position-reads.Learnt, frame-at-reads.Asked, frame-at-reads.Learnt, span-below t, span.Post, amplitude-reads.Asked, amplitude-reads.Learnt, mul-reads.Asked, mul-reads.Learnt, add-reads.Asked, add-reads.Learnt, put-frame-reads.Asked, put-frame-reads.Learnt, next-position-reads.Asked, next-position-reads.Learnt, put-first-reads.Asked, put-first-reads.Learnt, mixed-reads.Asked, mixed-reads.Learnt)
+delay-stage-calls t = (lesser-reads.Asked, lesser-reads.Learnt, number-at-reads.Asked, number-at-reads.Learnt, frame-at-reads.Asked, frame-at-reads.Learnt, span-below t, span.Post, amplitude-reads.Asked, amplitude-reads.Learnt, mul-reads.Asked, mul-reads.Learnt, add-reads.Asked, add-reads.Learnt, put-frame-reads.Asked, put-frame-reads.Learnt, next-position-reads.Asked, next-position-reads.Learnt, put-first-reads.Asked, put-first-reads.Learnt, mixed-reads.Asked, mixed-reads.Learnt)
 
 abbrev pub span-calls : ℕ → span-lts.Claims
 span-calls t = (next-place-reads.Asked, next-place-reads.Learnt, size-between-reads.Asked, size-between-reads.Learnt, lesser-reads.Asked, lesser-reads.Learnt, step-below t, step.Post, span-below t, span.Post)
 
 abbrev pub step-calls : ℕ → step-lts.Claims
-step-calls t = (volume-reads.Asked, volume-reads.Learnt, panning-reads.Asked, panning-reads.Learnt, distortion-reads.Asked, distortion-reads.Learnt, filter-stage-reads.Asked, filter-stage-reads.Learnt, eq-stage-reads.Asked, eq-stage-reads.Learnt, reverb-reads.Asked, reverb-reads.Learnt, delay-stage-below t, delay-stage.Post)
+step-calls t = (volume-reads.Asked, volume-reads.Learnt, panning-reads.Asked, panning-reads.Learnt, distortion-reads.Asked, distortion-reads.Learnt, recall-reads.Asked, recall-reads.Learnt, filter-reads.Asked, filter-reads.Learnt, keep-reads.Asked, keep-reads.Learnt, eq-filter-reads.Asked, eq-filter-reads.Learnt, reverb-reads.Asked, reverb-reads.Learnt, delay-stage-below t, delay-stage.Post)

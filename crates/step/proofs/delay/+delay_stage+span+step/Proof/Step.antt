@@ -4,7 +4,7 @@ use mir.Syntax.{w32}
 use mir.ValLaws.{toZ-ofZ}
 use borrow.Author.Needs.{needs}
 use Rattle.step.proofs.Levels.{volume-is, panning-is, distortion-is, filter-is, eq-is, reverb-is, delay-is}
-use Rattle.step.proofs.Steps.{step-by}
+use Rattle.step.proofs.Steps.{step-by, remembering-met}
 use Rattle.step.proofs.delay.step.Reads as step
 use Rattle.step.proofs.delay.+delay_stage+span+step.Lts-step as step-lts
 use Rattle.step.proofs.delay.+delay_stage+span+step.Proof.Calls.{step-at, step-calls}
@@ -30,15 +30,23 @@ step-met t =
     (λ c κs. search needs)
     -- enum-known-stage-4
     (λ c. search needs)
-    -- filter-stage-requires
+    -- recall-requires
+    (λ c κs. search needs)
+    -- process-requires-4
+    (λ c κs. search needs)
+    -- keep-requires
     (λ c κs. search needs)
     -- enum-known-stage-5
     (λ c. search needs)
-    -- eq-stage-requires
+    -- recall-requires-2
+    (λ c κs. search needs)
+    -- process-requires-5
+    (λ c κs. search needs)
+    -- keep-requires-2
     (λ c κs. search needs)
     -- enum-known-stage-6
     (λ c. search needs)
-    -- process-requires-4
+    -- process-requires-6
     (λ c κs. search needs)
     -- enum-known-stage-7
     (λ c. search needs)
@@ -60,17 +68,21 @@ step-met t =
     (λ c. search needs)
     -- returns-4
     (λ c.
-    let after-filter-stage = c .before .before in
-    let after-stage5 = after-filter-stage .before .before .before in
-    step-by _ _ _ _ _ _ _ _ _ (after-stage5 .stage5 .given .1) (λ n g. rw filter-is (after-filter-stage .filter-stage .ensures _ _)))
+    let after-keep = c .before .before in
+    let after-process4 = after-keep .before .before in
+    let after-recall = after-process4 .before in
+    let after-stage5 = after-recall .before .before .before in
+    step-by _ _ _ _ _ _ _ _ _ (after-stage5 .stage5 .given .1) (λ n g. rw filter-is (remembering-met _ _ _ _ _ _ _ _ _ (after-recall .recall .ensures) (after-process4 .process4 .ensures) (after-keep .keep .ensures .0) (after-keep .keep .ensures .1))))
     -- same-length-2
     (λ c. search needs)
     -- returns-5
     (λ c.
-    let after-eq-stage = c .before .before in
-    let after-known-told5 = after-eq-stage .before .before in
+    let after-keep2 = c .before .before in
+    let after-process5 = after-keep2 .before .before in
+    let after-recall2 = after-process5 .before in
+    let after-known-told5 = after-recall2 .before .before in
     let after-stage6 = after-known-told5 .before in
-    step-by _ _ _ _ _ _ _ _ _ (after-stage6 .stage6 .given .1) (λ n g. rw (eq-is, ← toZ-ofZ w32 (after-stage6 .stage6 .given .0 .1 .1 .0) record { sfits = after-known-told5 .known-told5 .given .1 .1 .0 .1 }) (after-eq-stage .eq-stage .ensures _ _)))
+    step-by _ _ _ _ _ _ _ _ _ (after-stage6 .stage6 .given .1) (λ n g. rw (eq-is, ← toZ-ofZ w32 (after-stage6 .stage6 .given .0 .1 .1 .0) record { sfits = after-known-told5 .known-told5 .given .1 .1 .0 .1 }) (remembering-met _ _ _ _ _ _ _ _ _ (after-recall2 .recall2 .ensures) (after-process5 .process5 .ensures) (after-keep2 .keep2 .ensures .0) (after-keep2 .keep2 .ensures .1))))
     -- same-length-3
     (λ c. search needs)
     -- same-length-4
@@ -79,9 +91,9 @@ step-met t =
     (λ c. search needs)
     -- returns-6
     (λ c.
-    let after-process4 = c .before .before .before .before .before .before in
-    let after-stage7 = after-process4 .before .before .before .before .before in
-    step-by _ _ _ _ _ _ _ _ _ (after-stage7 .stage7 .given .1) (λ n g. rw reverb-is (after-process4 .process4 .ensures)))
+    let after-process6 = c .before .before .before .before .before .before in
+    let after-stage7 = after-process6 .before .before .before .before .before in
+    step-by _ _ _ _ _ _ _ _ _ (after-stage7 .stage7 .given .1) (λ n g. rw reverb-is (after-process6 .process6 .ensures)))
     -- same-length-6
     (λ c. search needs)
     -- same-length-7

@@ -1,7 +1,7 @@
 // The top stages, which no stage owns: where they stand in the list.
 ghost use mathlib.Core.Path.{_≡_};
-ghost use Prim.Native.Nat.{_≤_, min};
-ghost use Rattle.refuse.specs.Tops.{topsRecord};
+ghost use Prim.Native.Nat.{min};
+ghost use Rattle.tops.specs.Tops.{topsRecord};
 use stage::kind::Stage;
 use stage::layout::next_place;
 

@@ -1,14 +1,14 @@
--- `tops::tops_of` meets its contract. The loop's invariant: `i` is the place of top stage n, of which there are at least n, and the entries up to n are written. The measure is what is left of the stages. Assumes nothing.
+-- `tops_of` meets its contract. The loop's invariant: `i` is the place of top stage n, of which there are at least n, and the entries up to n are written. The measure is what is left of the stages. Assumes nothing.
 use mathlib.Core.Path.{_≡_, refl, ap, sym, _∙_}
 use mathlib.Core.Logic.{⊎-elim}
 use Prim.Native.Nat.{_-_, _≤_, _<_, min}
 use native.Mathlib.Omega.{arith}
 use lib.ListN.{getD-replicate}
 use borrow.Author.Needs.{needs}
-use Rattle.refuse.specs.Tops.{topAt, topsOf, topsRecord}
-use Rattle.refuse.proofs.TopStages.{top-zero, top-more, tops-more, tops-are, Written, written-more, written-all}
-use Rattle.refuse.proofs.tops.tops_of.Statement.{statement}
-use Rattle.refuse.proofs.tops.tops_of.Tie as tie
+use Rattle.tops.specs.Tops.{topAt, topsOf, topsRecord}
+use Rattle.tops.proofs.TopStages.{top-zero, top-more, tops-more, tops-are, Written, written-more, written-all}
+use Rattle.tops.proofs.tops_of.Statement.{statement}
+use Rattle.tops.proofs.tops_of.Tie as tie
 
 abbrev Inv-loop : tie.InvT-loop
 Inv-loop count stages end places₀ n₀ i₀ places n i =

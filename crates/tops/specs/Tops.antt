@@ -1,12 +1,13 @@
 -- The top stages, which no stage owns. Definitions only.
 use mathlib.Core.Bool.{cond}
-use mathlib.Core.List.{List, [], _∷_}
+use mathlib.Core.List.{List}
 use Prim.Native.Nat.{ℕ, zero, suc}
 use lib.Dec.{leb}
 use Rattle.stage.specs.declared.kind.Stage.{Stage}
 use Rattle.stage.specs.Kind.{stageAt, nextPlace}
 use Rattle.stage.specs.First.{firstOf}
-use Rattle.refuse.specs.declared.tops.Tops.{Tops}
+use Rattle.stage.specs.Listed.{listFrom, listOf}
+use Rattle.tops.specs.declared.Tops.{Tops}
 
 -- the list place of the kth top stage, of c stages; and c where there is none
 unfoldable pub topAt : List Stage → ℕ → ℕ → ℕ
@@ -18,12 +19,10 @@ unfoldable pub topsOf : List Stage → ℕ → ℕ
 unfolding topAt
 topsOf l c = firstOf (λ k. leb c (topAt l c k)) 16
 
--- the places of m numbers from k on, as `tops_of` writes them: of each top stage, then where the last one ends, and 0 beyond
-unfoldable pub placesFrom : List Stage → ℕ → ℕ → ℕ → List ℕ
-unfolding topAt topsOf
-placesFrom l c k zero = []
-placesFrom l c k (suc m) = cond (leb k (topsOf l c)) (topAt l c k) 0 ∷ placesFrom l c (suc k) m
+-- what `tops_of` writes at a place: where each top stage stands, then where the last one ends, and 0 beyond
+abbrev pub topOr0 : List Stage → ℕ → ℕ → ℕ
+topOr0 l c k = cond (leb k (topsOf l c)) (topAt l c k) 0
 
 unfoldable pub topsRecord : List Stage → ℕ → Tops
-unfolding placesFrom topsOf
-topsRecord l c = record { places = placesFrom l c 0 17; n = topsOf l c }
+unfolding topAt topsOf listFrom
+topsRecord l c = record { places = listOf (topOr0 l c) 17; n = topsOf l c }

@@ -1,0 +1,2 @@
+pub mod TopStages
+pub mod OneOutcome
