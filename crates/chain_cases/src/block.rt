@@ -8,26 +8,28 @@ use crate::say::volume;
 use crate::say::with;
 use fresh::memories::Memories;
 
-// A delay of 2 frames at list place 1.
-fn on_position(name: &[u8], position: usize) {
-    let mut samples = [0.0; 0];
-    let mut store = [0.0; 4];
-    let order = [0; 0];
+// The first position of list place 1.
+fn at_position(position: usize) -> Memories {
     let mut positions = [0; 384];
     positions[24] = position;
+    Memories {
+        positions,
+        floats: [0.0; 320],
+    }
+}
+
+// A delay of 2 frames at list place 1.
+fn on_position(name: &[u8], position: usize) {
     case(
         name,
         44100,
         with(all(volume(0)), 1, delay(2, 0)),
         2,
-        &mut samples,
-        Memories {
-            positions,
-            floats: [0.0; 320],
-        },
-        &mut store,
+        &mut [0.0; 0],
+        at_position(position),
+        &mut [0.0; 4],
         [0; 16],
-        &order,
+        &[0; 0],
     );
 }
 
@@ -92,11 +94,9 @@ fn on_owning(name: &[u8], progress: [usize; 16], order: &[usize]) {
 }
 
 pub(crate) fn owning() {
-    let through = [0, 1];
-    on_owning(b"owning_order_0_1", counts(0, 0), &through);
-    let owned = [0, 1, 2];
-    on_owning(b"owning_order_0_1_2", counts(0, 0), &owned);
-    on_owning(b"owning_progress_1_2", counts(1, 2), &through);
+    on_owning(b"owning_order_0_1", counts(0, 0), &[0, 1]);
+    on_owning(b"owning_order_0_1_2", counts(0, 0), &[0, 1, 2]);
+    on_owning(b"owning_progress_1_2", counts(1, 2), &[0, 1]);
 }
 
 // Two stages, one frame.
