@@ -1,73 +1,13 @@
 // One stage alone on both sides: the library of `compare_face`, and kira's own effect.
 use crate::common::bits32;
 use crate::fed;
+use crate::linked::{
+    Answer, Memory, Pair, sedhavil_distortion, sedhavil_eq_filter, sedhavil_filter,
+    sedhavil_panning_control, sedhavil_volume_control,
+};
 use crate::stage::{KINDS, Remembering, Stage, effect_of};
 use kira::info::Info;
 use kira::{Decibels, Frame};
-
-// ---- what crosses to the library
-
-#[repr(C)]
-#[derive(Clone, Copy, Debug, Default)]
-pub struct Pair {
-    pub left: f32,
-    pub right: f32,
-}
-
-#[repr(C)]
-#[derive(Clone, Copy, Debug, Default)]
-pub struct Memory {
-    pub ic1eq: Pair,
-    pub ic2eq: Pair,
-}
-
-#[repr(C)]
-#[derive(Clone, Copy, Debug)]
-pub struct Answer {
-    pub output: Pair,
-    pub after: Memory,
-}
-
-#[repr(C)]
-pub struct Weights {
-    pub a1: f64,
-    pub a2: f64,
-    pub a3: f64,
-}
-
-#[repr(C)]
-pub struct Coefficients {
-    pub a1: f64,
-    pub a2: f64,
-    pub a3: f64,
-    pub m0: f64,
-    pub m1: f64,
-    pub m2: f64,
-}
-
-unsafe extern "C" {
-    safe fn sedhavil_volume_control(input: Pair, volume: i32) -> Pair;
-    safe fn sedhavil_panning_control(input: Pair, panning: f32) -> Pair;
-    safe fn sedhavil_distortion(input: Pair, kind: u32, drive: i32, mix: f32) -> Pair;
-    safe fn sedhavil_filter(
-        input: Pair,
-        memory: Memory,
-        mode: u32,
-        g: f64,
-        resonance: f64,
-        mix: f32,
-    ) -> Answer;
-    safe fn sedhavil_eq_filter(
-        input: Pair,
-        memory: Memory,
-        kind: u32,
-        g: f64,
-        q: f64,
-        gain: i32,
-    ) -> Answer;
-    pub safe fn sedhavil_weigh(g: f64, k: f64) -> Weights;
-    pub safe fn sedhavil_coefficients(kind: u32, g: f64, q: f64, gain: i32) -> Coefficients;
-}
 
 impl Answer {
     pub fn bits(&self) -> [u64; 6] {

@@ -14,13 +14,15 @@ mod face;
 #[allow(dead_code)]
 mod kira_chain;
 #[allow(dead_code)]
+mod linked;
+#[allow(dead_code)]
 mod stage;
 #[allow(dead_code)]
 mod table;
 #[allow(dead_code)]
 mod words;
 
-use alone::{kira_coefficients, sedhavil_coefficients};
+use alone::kira_coefficients;
 use case::Listed;
 use common::{Random, bits32};
 use face::Held;
@@ -28,10 +30,14 @@ use kira::effect::Effect;
 use kira::info::Info;
 use kira::{Decibels, Frame};
 use kira_chain::{FLOATS, kept};
+use linked::{
+    sedhavil_amplitude, sedhavil_as_f32, sedhavil_coefficients, sedhavil_sqrt_f32,
+    sedhavil_sqrt_f64,
+};
 use stage::Stage;
 use std::hint::black_box;
 use std::time::{Duration, Instant};
-use table::POSITIONS;
+use table::{Delay, POSITIONS, Reverb};
 
 // A key is a frequency in hertz, with the tangent that kira works out for it.
 mod fed {
@@ -42,13 +48,6 @@ mod fed {
     pub fn tangent(key: u64) -> f64 {
         (std::f64::consts::PI * frequency(key).clamp(0.0001, 0.5)).tan()
     }
-}
-
-unsafe extern "C" {
-    safe fn sedhavil_sqrt_f32(x: f32) -> f32;
-    safe fn sedhavil_sqrt_f64(x: f64) -> f64;
-    safe fn sedhavil_as_f32(x: f64) -> f32;
-    safe fn sedhavil_amplitude(decibels: i32) -> f32;
 }
 
 const RATE: u32 = 48_000;
@@ -351,21 +350,21 @@ fn eq(kind: u32) -> Listed {
 }
 
 fn reverb() -> Listed {
-    Listed::Reverb {
+    Listed::Reverb(Reverb {
         feedback: 0.9,
         damping: 0.1,
         width: 1.0,
         mix: 0.5,
-    }
+    })
 }
 
 fn delay(frames: u32, owned: usize) -> Listed {
-    Listed::Delay {
+    Listed::Delay(Delay {
         frames,
         feedback: -12,
         mix: 0.5,
         owned,
-    }
+    })
 }
 
 fn kinds() -> [(&'static str, Listed); 14] {

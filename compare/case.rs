@@ -3,7 +3,7 @@
 use crate::face::Held;
 use crate::fed;
 use crate::stage::Stage;
-use crate::table;
+use crate::table::{self, Delay, Reverb};
 use crate::words;
 use std::fmt::{self, Display, Formatter};
 
@@ -11,18 +11,8 @@ use std::fmt::{self, Display, Formatter};
 #[derive(Clone, Copy, Debug)]
 pub enum Listed {
     Alone(Stage),
-    Reverb {
-        feedback: f32,
-        damping: f32,
-        width: f32,
-        mix: f32,
-    },
-    Delay {
-        frames: u32,
-        feedback: i32,
-        mix: f32,
-        owned: usize,
-    },
+    Reverb(Reverb),
+    Delay(Delay),
     // Words as they are, with or without a meaning; kira is not built from them.
     Words([u64; 5]),
 }
@@ -67,29 +57,19 @@ impl Listed {
                 let g = fed::tangent(key);
                 [4, kind as u64, g.to_bits(), decibels(gain), q.to_bits()]
             }
-            Listed::Reverb {
-                feedback,
-                damping,
-                width,
-                mix,
-            } => [
+            Listed::Reverb(r) => [
                 5,
-                single(feedback),
-                single(damping),
-                single(width),
-                single(mix),
+                single(r.feedback),
+                single(r.damping),
+                single(r.width),
+                single(r.mix),
             ],
-            Listed::Delay {
-                frames,
-                feedback,
-                mix,
-                owned,
-            } => [
+            Listed::Delay(d) => [
                 6,
-                frames as u64,
-                decibels(feedback),
-                single(mix),
-                owned as u64,
+                d.frames as u64,
+                decibels(d.feedback),
+                single(d.mix),
+                d.owned as u64,
             ],
             Listed::Words(words) => words,
         }

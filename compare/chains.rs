@@ -15,6 +15,8 @@ mod fed;
 mod inputs;
 mod judge;
 mod kira_chain;
+#[allow(dead_code)]
+mod linked;
 mod listed;
 mod panics;
 mod rates;
@@ -159,9 +161,6 @@ fn main() -> ExitCode {
             return ExitCode::from(2);
         }
     };
-    if compare(seed, rounds) {
-        ExitCode::SUCCESS
-    } else {
-        ExitCode::FAILURE
-    }
+    let same = compare(seed, rounds);
+    ExitCode::from(u8::from(!same))
 }

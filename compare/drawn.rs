@@ -83,8 +83,8 @@ fn positions(random: &mut Random, rate: u32, list: &[Listed]) -> Vec<usize> {
             _ => random.below(length as u64) as usize,
         };
         match *stage {
-            Listed::Delay { frames, .. } => own[0] = at(frames as usize),
-            Listed::Reverb { .. } => {
+            Listed::Delay(delay) => own[0] = at(delay.frames as usize),
+            Listed::Reverb(_) => {
                 let lines = table::reverb_lines(rate);
                 lines.iter().zip(own).for_each(|(&n, own)| *own = at(n));
             }

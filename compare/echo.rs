@@ -2,6 +2,8 @@
 // the two samples with which crates/block_sizes/stdout begins.
 #[allow(dead_code)]
 mod fed;
+#[allow(dead_code)]
+mod linked;
 
 use kira::effect::Effect;
 use kira::effect::delay::DelayBuilder;

@@ -6,7 +6,7 @@ use crate::face::Held;
 use crate::fed;
 use crate::inputs::{DOUBLES, QS, SINGLES, audible, sample};
 use crate::stage::Stage;
-use crate::table::POSITIONS;
+use crate::table::{Delay, POSITIONS, Reverb};
 
 const LEVELS: [i32; 10] = [i32::MIN, -61, -60, -59, -24, 0, 24, 25, 1000, i32::MAX];
 
@@ -52,21 +52,21 @@ fn eq(kind: usize, key: u64, gain: i32, q: f64) -> Listed {
 }
 
 fn reverb(feedback: f32, damping: f32, width: f32, mix: f32) -> Listed {
-    Listed::Reverb {
+    Listed::Reverb(Reverb {
         feedback,
         damping,
         width,
         mix,
-    }
+    })
 }
 
 fn delay(frames: u32, feedback: i32, mix: f32, owned: usize) -> Listed {
-    Listed::Delay {
+    Listed::Delay(Delay {
         frames,
         feedback,
         mix,
         owned,
-    }
+    })
 }
 
 // Each kind and mode, with settings from inside their ranges.

@@ -8,27 +8,27 @@ mod common;
 mod directed;
 mod fed;
 mod inputs;
+#[allow(dead_code)]
+mod linked;
 mod oddities;
 mod regrouped;
 mod stage;
 mod tally;
 
-use alone::{Answer, Kira, Memory, Pair, kira_coefficients, ours};
+use alone::{Kira, kira_coefficients, ours};
 use common::{Random, bits32, bits64};
 use directed::DIRECTED;
 use inputs::{audible, drive, gain, key, mix, panning, q, resonance, sample, volume};
+use linked::{
+    Answer, Memory, Pair, sedhavil_amplitude, sedhavil_as_f32, sedhavil_coefficients,
+    sedhavil_eq_amplitude, sedhavil_weigh,
+};
 use oddities::ODDITIES;
 use regrouped::{CHANGES, Change};
 use stage::Stage;
 use std::hint::black_box;
 use std::process::ExitCode;
 use tally::Tally;
-
-unsafe extern "C" {
-    safe fn sedhavil_amplitude(decibels: i32) -> f32;
-    safe fn sedhavil_eq_amplitude(gain: i32) -> f64;
-    safe fn sedhavil_as_f32(x: f64) -> f32;
-}
 
 // Frames that stand alone, for each kind; runs, and the frames of each; settings of coefficients;
 // and inputs found against each change, beside those of directed.rs.
@@ -253,7 +253,7 @@ fn compare_coefficients() -> bool {
         for _ in 0..SETTINGS {
             let (key, q, gain) = (key(&mut random), q(&mut random), gain(&mut random));
             let kira = kira_coefficients(kind, key, q, gain);
-            let c = alone::sedhavil_coefficients(kind, fed::tangent(key), q, gain);
+            let c = sedhavil_coefficients(kind, fed::tangent(key), q, gain);
             let ours = [c.a1, c.a2, c.a3, c.m0, c.m1, c.m2];
             let is_same = ours.map(bits64) == kira.map(bits64)
                 && ours.map(|c| sedhavil_as_f32(c)).map(bits32)
@@ -269,7 +269,7 @@ fn compare_coefficients() -> bool {
     for _ in 0..SETTINGS {
         let (key, q) = (key(&mut random), q(&mut random));
         let kira = kira_coefficients(0, key, q, 0);
-        let w = alone::sedhavil_weigh(fed::tangent(key), 1.0 / q.max(0.01));
+        let w = sedhavil_weigh(fed::tangent(key), 1.0 / q.max(0.01));
         let ours = [w.a1, w.a2, w.a3];
         tally.check(ours.map(bits64)[..] == kira.map(bits64)[..3], || {
             format!("key {key:#x}, q {q:?}: ours {ours:?}, kira's {kira:?}")
@@ -378,9 +378,5 @@ fn main() -> ExitCode {
             return ExitCode::from(2);
         }
     };
-    if same {
-        ExitCode::SUCCESS
-    } else {
-        ExitCode::FAILURE
-    }
+    ExitCode::from(u8::from(!same))
 }

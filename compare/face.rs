@@ -1,58 +1,11 @@
-// The functions of the crate `face`, as Rust sees them: each slice is a pointer and a length.
+// The functions of the crate `face`, by the declarations of the bindings, on all that a call may change.
 use crate::table::Refusal;
+use bindings::Answer;
 
-#[repr(C)]
-struct Answer {
-    number: u32,
-    place: usize,
-}
-
-unsafe extern "C" {
-    fn sedhavil_run(
-        rate: u32,
-        stages: *const u64,
-        stages_length: usize,
-        samples: *mut f32,
-        samples_length: usize,
-        positions: *mut usize,
-        positions_length: usize,
-        floats: *mut f32,
-        floats_length: usize,
-        store: *mut f32,
-        store_length: usize,
-        progress: *mut usize,
-        progress_length: usize,
-        order: *const usize,
-        order_length: usize,
-    ) -> Answer;
-    fn sedhavil_render(
-        rate: u32,
-        stages: *const u64,
-        stages_length: usize,
-        samples: *mut f32,
-        samples_length: usize,
-        positions: *mut usize,
-        positions_length: usize,
-        floats: *mut f32,
-        floats_length: usize,
-        store: *mut f32,
-        store_length: usize,
-        progress: *mut usize,
-        progress_length: usize,
-    ) -> Answer;
-    fn sedhavil_start(
-        rate: u32,
-        stages: *const u64,
-        stages_length: usize,
-        positions: *mut usize,
-        positions_length: usize,
-        floats: *mut f32,
-        floats_length: usize,
-        store: *mut f32,
-        store_length: usize,
-    ) -> Answer;
-    fn sedhavil_floats_needed(rate: u32, stages: *const u64, stages_length: usize) -> Answer;
-}
+// Those of a WAV file are not compared here.
+#[allow(dead_code)]
+#[path = "../bindings/rust/src/face.rs"]
+mod bindings;
 
 // All that a call may change.
 #[derive(Clone, Debug, Default)]
@@ -72,63 +25,40 @@ fn told(answer: Answer) -> Refusal {
 }
 
 pub fn run(rate: u32, stages: &[u64], held: &mut Held, order: &[usize]) -> Refusal {
-    told(unsafe {
-        sedhavil_run(
-            rate,
-            stages.as_ptr(),
-            stages.len(),
-            held.samples.as_mut_ptr(),
-            held.samples.len(),
-            held.positions.as_mut_ptr(),
-            held.positions.len(),
-            held.floats.as_mut_ptr(),
-            held.floats.len(),
-            held.store.as_mut_ptr(),
-            held.store.len(),
-            held.progress.as_mut_ptr(),
-            held.progress.len(),
-            order.as_ptr(),
-            order.len(),
-        )
-    })
+    told(bindings::run(
+        rate,
+        stages,
+        &mut held.samples,
+        &mut held.positions,
+        &mut held.floats,
+        &mut held.store,
+        &mut held.progress,
+        order,
+    ))
 }
 
 pub fn render(rate: u32, stages: &[u64], held: &mut Held) -> Refusal {
-    told(unsafe {
-        sedhavil_render(
-            rate,
-            stages.as_ptr(),
-            stages.len(),
-            held.samples.as_mut_ptr(),
-            held.samples.len(),
-            held.positions.as_mut_ptr(),
-            held.positions.len(),
-            held.floats.as_mut_ptr(),
-            held.floats.len(),
-            held.store.as_mut_ptr(),
-            held.store.len(),
-            held.progress.as_mut_ptr(),
-            held.progress.len(),
-        )
-    })
+    told(bindings::render(
+        rate,
+        stages,
+        &mut held.samples,
+        &mut held.positions,
+        &mut held.floats,
+        &mut held.store,
+        &mut held.progress,
+    ))
 }
 
 pub fn start(rate: u32, stages: &[u64], held: &mut Held) -> Refusal {
-    told(unsafe {
-        sedhavil_start(
-            rate,
-            stages.as_ptr(),
-            stages.len(),
-            held.positions.as_mut_ptr(),
-            held.positions.len(),
-            held.floats.as_mut_ptr(),
-            held.floats.len(),
-            held.store.as_mut_ptr(),
-            held.store.len(),
-        )
-    })
+    let Held {
+        positions,
+        floats,
+        store,
+        ..
+    } = held;
+    told(bindings::start(rate, stages, positions, floats, store))
 }
 
 pub fn floats_needed(rate: u32, stages: &[u64]) -> Refusal {
-    told(unsafe { sedhavil_floats_needed(rate, stages.as_ptr(), stages.len()) })
+    told(bindings::floats_needed(rate, stages))
 }

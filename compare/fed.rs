@@ -2,11 +2,7 @@
 // these feeds kira our amplitudes and the tangents of its own choice: the linker takes them before
 // libm's. Each must answer every argument, by the argument alone, since the optimiser counts on that
 // of libm's: it calls `powf` early, and drops the answer where the level is 0 dB or at most -60 dB.
-
-unsafe extern "C" {
-    safe fn sedhavil_amplitude(decibels: i32) -> f32;
-    safe fn sedhavil_eq_amplitude(gain: i32) -> f64;
-}
+use crate::linked::{sedhavil_amplitude, sedhavil_eq_amplitude};
 
 // The whole number k for which k / parts is x, among those from -99 on.
 fn whole_of(x: f64, parts: f64) -> i32 {

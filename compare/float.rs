@@ -6,22 +6,17 @@
 //   float --all      also every f32, and every tie between two neighbouring f32 (minutes)
 //   float --sample   prints crates/float_replay/src/sample.rt: answers of Rust's, and nothing of ours
 mod common;
+#[allow(dead_code)]
+mod linked;
 
 use common::{Random, bits32, bits64};
+use linked::{
+    sedhavil_abs_f32, sedhavil_as_f32, sedhavil_at_least_hundredth_f64, sedhavil_clamp_both_f32,
+    sedhavil_clamp_unit_f32, sedhavil_clamp_unit_f64, sedhavil_sqrt_f32, sedhavil_sqrt_f64,
+};
 use std::collections::HashSet;
 use std::hint::black_box;
 use std::process::ExitCode;
-
-unsafe extern "C" {
-    safe fn sedhavil_sqrt_f32(x: f32) -> f32;
-    safe fn sedhavil_sqrt_f64(x: f64) -> f64;
-    safe fn sedhavil_as_f32(x: f64) -> f32;
-    safe fn sedhavil_abs_f32(x: f32) -> f32;
-    safe fn sedhavil_clamp_unit_f32(x: f32) -> f32;
-    safe fn sedhavil_clamp_unit_f64(x: f64) -> f64;
-    safe fn sedhavil_clamp_both_f32(x: f32) -> f32;
-    safe fn sedhavil_at_least_hundredth_f64(x: f64) -> f64;
-}
 
 // Random inputs of each kind, and differences that are printed.
 const RANDOM: u64 = 1_000_000;
@@ -477,9 +472,5 @@ fn main() -> ExitCode {
             return ExitCode::from(2);
         }
     };
-    if same {
-        ExitCode::SUCCESS
-    } else {
-        ExitCode::FAILURE
-    }
+    ExitCode::from(u8::from(!same))
 }

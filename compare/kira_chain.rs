@@ -78,30 +78,20 @@ pub fn delay_time(frames: u32, rate: u32) -> Duration {
 pub fn kept(stage: Listed, rate: u32, feedback_effects: Vec<Box<dyn Effect>>) -> Kept {
     match stage {
         Listed::Alone(stage) => Kept::Alone(effect_of(stage)),
-        Listed::Reverb {
-            feedback,
-            damping,
-            width,
-            mix,
-        } => {
+        Listed::Reverb(reverb) => {
             let builder = ReverbBuilder {
-                feedback: Value::Fixed(feedback as f64),
-                damping: Value::Fixed(damping as f64),
-                stereo_width: Value::Fixed(width as f64),
-                mix: Value::Fixed(Mix(mix)),
+                feedback: Value::Fixed(reverb.feedback as f64),
+                damping: Value::Fixed(reverb.damping as f64),
+                stereo_width: Value::Fixed(reverb.width as f64),
+                mix: Value::Fixed(Mix(reverb.mix)),
             };
             Kept::Reverb(builder.open())
         }
-        Listed::Delay {
-            frames,
-            feedback,
-            mix,
-            ..
-        } => {
+        Listed::Delay(delay) => {
             let builder = DelayBuilder {
-                delay_time: delay_time(frames, rate),
-                feedback: Value::Fixed(Decibels(feedback as f32)),
-                mix: Value::Fixed(Mix(mix)),
+                delay_time: delay_time(delay.frames, rate),
+                feedback: Value::Fixed(Decibels(delay.feedback as f32)),
+                mix: Value::Fixed(Mix(delay.mix)),
                 feedback_effects,
             };
             Kept::Delay(builder.open())

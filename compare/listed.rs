@@ -5,6 +5,7 @@ use crate::fed;
 use crate::inputs::{drive, gain, key, mix, panning, q, resonance, volume};
 use crate::rates::Rates;
 use crate::stage::Stage;
+use crate::table::{Delay, Reverb};
 
 fn until<T>(random: &mut Random, of: fn(&mut Random) -> T, is_fit: impl Fn(&T) -> bool) -> T {
     loop {
@@ -76,22 +77,22 @@ fn stage(random: &mut Random) -> Listed {
             q: until(random, q, |q| (0.0..=1000.0).contains(q)),
             gain: gain(random),
         }),
-        _ => Listed::Reverb {
+        _ => Listed::Reverb(Reverb {
             feedback: unit(random),
             damping: unit(random),
             width: unit(random),
             mix: finite(random, mix),
-        },
+        }),
     }
 }
 
 fn delay(random: &mut Random, owned: usize) -> Listed {
-    Listed::Delay {
+    Listed::Delay(Delay {
         frames: delay_frames(random),
         feedback: feedback(random),
         mix: finite(random, mix),
         owned,
-    }
+    })
 }
 
 // So many stages, the first of them at this depth.
@@ -121,7 +122,7 @@ pub fn list(random: &mut Random, stages: usize) -> Vec<Listed> {
 
 // With a reverb, mostly a low rate: its lines are short then.
 pub fn rate(random: &mut Random, rates: &Rates, list: &[Listed]) -> u32 {
-    let has_reverb = list.iter().any(|s| matches!(s, Listed::Reverb { .. }));
+    let has_reverb = list.iter().any(|s| matches!(s, Listed::Reverb(_)));
     loop {
         let usual = [8_000, 11_025, 22_050, 44_100, 48_000, 96_000, 192_000];
         let rate = match random.below(32) {

@@ -1,6 +1,6 @@
 // What kira does at inputs that a reader would not expect, as docs/DIFFERENCES.md tells it: each with
 // the frame that comes out.
-use crate::alone::{Memory, Pair};
+use crate::linked::{Memory, Pair};
 use crate::stage::Stage;
 
 pub struct Oddity {

@@ -4,6 +4,7 @@
 // shows in the f32 results, and `search` found them.
 use crate::common::{Random, bits32};
 use crate::fed;
+use crate::linked::sedhavil_eq_amplitude;
 use crate::stage::Stage;
 
 #[derive(Clone, Copy, Debug, PartialEq)]
@@ -102,10 +103,6 @@ const fn directed(change: Change, stage: Stage, [x, ic1eq, ic2eq]: [f32; 3]) -> 
         ic1eq,
         ic2eq,
     }
-}
-
-unsafe extern "C" {
-    safe fn sedhavil_eq_amplitude(gain: i32) -> f64;
 }
 
 fn weights(change: Change, g: f64, k: f64) -> [f64; 3] {

@@ -15,6 +15,7 @@ mod face;
 mod fed;
 mod inputs;
 mod kira_chain;
+mod linked;
 mod listed;
 mod rates;
 mod record;

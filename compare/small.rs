@@ -5,6 +5,7 @@ use crate::face::Held;
 use crate::judge::{self, Seen, judge};
 use crate::shrink;
 use crate::stage::Stage;
+use crate::table::Delay;
 use crate::tally::Tally;
 use std::collections::HashMap;
 
@@ -34,12 +35,12 @@ fn no_delay(place: usize) -> Listed {
 }
 
 fn delay(place: usize, owned: usize) -> Listed {
-    Listed::Delay {
+    Listed::Delay(Delay {
         frames: 1 + place as u32 % 3,
         feedback: -2 - place as i32,
         mix: 0.4,
         owned,
-    }
+    })
 }
 
 // No two of them alike.

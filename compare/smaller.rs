@@ -2,7 +2,7 @@
 use crate::case::{Case, Listed, What};
 use crate::kira_chain::FLOATS;
 use crate::stage::Stage;
-use crate::table::POSITIONS;
+use crate::table::{Delay, POSITIONS, Reverb};
 
 // Without so many stages from a place on: without their lines and memories, and where one was a top
 // stage, without its progress and its entries.
@@ -26,10 +26,10 @@ pub fn without(case: &Case, place: usize, count: usize) -> Case {
     let is_alone = count == 1 && case.stages[place].owned() > 0;
     case.stages.drain(place..place + count);
     for (j, stage) in case.stages[..place].iter_mut().enumerate() {
-        if let Listed::Delay { owned, .. } = stage
-            && *owned >= place - j
+        if let Listed::Delay(delay) = stage
+            && delay.owned >= place - j
         {
-            *owned = owned.saturating_sub(count);
+            delay.owned = delay.owned.saturating_sub(count);
         }
     }
     if let Some(top) = top.filter(|_| !is_alone) {
@@ -139,44 +139,34 @@ pub fn plainer(stage: Listed) -> Vec<Listed> {
                 of(7, 1.0, 0),
             ]
         }
-        Listed::Reverb {
-            feedback,
-            damping,
-            width,
-            mix,
-        } => {
-            let of = |feedback, damping, width, mix| Listed::Reverb {
-                feedback,
-                damping,
-                width,
-                mix,
-            };
-            vec![
-                of(0.0, damping, width, mix),
-                of(feedback, 0.0, width, mix),
-                of(feedback, damping, 1.0, mix),
-                of(feedback, damping, width, 1.0),
-                of(0.0, 0.0, 1.0, 1.0),
-            ]
+        Listed::Reverb(r) => {
+            let plainer = [
+                Reverb { feedback: 0.0, ..r },
+                Reverb { damping: 0.0, ..r },
+                Reverb { width: 1.0, ..r },
+                Reverb { mix: 1.0, ..r },
+                Reverb {
+                    feedback: 0.0,
+                    damping: 0.0,
+                    width: 1.0,
+                    mix: 1.0,
+                },
+            ];
+            plainer.map(Listed::Reverb).to_vec()
         }
-        Listed::Delay {
-            frames,
-            feedback,
-            mix,
-            owned,
-        } => {
-            let of = |frames, feedback, mix| Listed::Delay {
-                frames,
-                feedback,
-                mix,
-                owned,
-            };
-            vec![
-                of(1, feedback, mix),
-                of(frames, 0, mix),
-                of(frames, feedback, 1.0),
-                of(1, 0, 1.0),
-            ]
+        Listed::Delay(d) => {
+            let plainer = [
+                Delay { frames: 1, ..d },
+                Delay { feedback: 0, ..d },
+                Delay { mix: 1.0, ..d },
+                Delay {
+                    frames: 1,
+                    feedback: 0,
+                    mix: 1.0,
+                    ..d
+                },
+            ];
+            plainer.map(Listed::Delay).to_vec()
         }
         Listed::Words(_) => vec![still],
     }

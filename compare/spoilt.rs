@@ -6,7 +6,7 @@ use crate::drawn;
 use crate::inputs::{DOUBLES, QS, SINGLES, key};
 use crate::rates::Rates;
 use crate::stage::Stage;
-use crate::table;
+use crate::table::{self, Delay};
 
 const LEVELS: [i32; 12] = [
     -61,
@@ -69,15 +69,15 @@ fn owned(random: &mut Random, case: &mut Case) {
         _ => random.below(20) as usize,
     };
     match &mut case.stages[place] {
-        Listed::Delay { owned: old, .. } => *old = owned,
+        Listed::Delay(delay) => delay.owned = owned,
         other => {
             // its line is the store's next float pair, and all later lines move
-            *other = Listed::Delay {
+            *other = Listed::Delay(Delay {
                 frames: 1,
                 feedback: 0,
                 mix: 0.5,
                 owned,
-            };
+            });
             if let Some(position) = case.held.positions.get_mut(table::POSITIONS * place) {
                 *position = 0;
             }
@@ -129,28 +129,18 @@ fn setting(random: &mut Random, case: &mut Case) {
     };
     match &mut case.stages[place] {
         Listed::Alone(stage) => spoil_alone(random, stage),
-        Listed::Reverb {
-            feedback,
-            damping,
-            width,
-            mix,
-        } => {
-            let settings = [feedback, damping, width, mix];
+        Listed::Reverb(r) => {
+            let settings = [&mut r.feedback, &mut r.damping, &mut r.width, &mut r.mix];
             let which = random.below(4) as usize;
             *settings.into_iter().nth(which).expect("below 4") = single(random);
         }
-        Listed::Delay {
-            frames,
-            feedback,
-            mix,
-            ..
-        } => match random.below(3) {
+        Listed::Delay(delay) => match random.below(3) {
             0 => {
                 let edges = [0, 1, 480_000, 480_001, u32::MAX];
-                *frames = random.one_of(&edges);
+                delay.frames = random.one_of(&edges);
             }
-            1 => *feedback = level(random),
-            _ => *mix = single(random),
+            1 => delay.feedback = level(random),
+            _ => delay.mix = single(random),
         },
         Listed::Words(_) => {}
     }
@@ -173,8 +163,8 @@ fn position(random: &mut Random, case: &mut Case) {
         return;
     };
     let lines = match case.stages[place] {
-        Listed::Delay { frames, .. } => vec![frames as usize],
-        Listed::Reverb { .. } => table::reverb_lines(case.rate).to_vec(),
+        Listed::Delay(delay) => vec![delay.frames as usize],
+        Listed::Reverb(_) => table::reverb_lines(case.rate).to_vec(),
         _ => vec![],
     };
     let line = random.below(table::POSITIONS as u64) as usize;
@@ -319,10 +309,7 @@ pub fn case(random: &mut Random, rates: &Rates) -> Case {
         random.one_of(&SPOILERS)(random, &mut case);
     }
     // a reverb that kira has with other lines
-    let has_reverb = case
-        .stages
-        .iter()
-        .any(|s| matches!(s, Listed::Reverb { .. }));
+    let has_reverb = case.stages.iter().any(|s| matches!(s, Listed::Reverb(_)));
     if has_reverb && rates.differ(case.rate) {
         case.rate = 8_000;
     }

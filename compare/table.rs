@@ -4,38 +4,29 @@
 
 #[derive(Clone, Copy, Debug)]
 pub enum Stage {
-    Volume {
-        volume: i32,
-    },
-    Panning {
-        panning: f32,
-    },
-    Distortion {
-        drive: i32,
-        mix: f32,
-    },
-    Filter {
-        g: f64,
-        resonance: f64,
-        mix: f32,
-    },
-    Eq {
-        g: f64,
-        gain: i32,
-        q: f64,
-    },
-    Reverb {
-        feedback: f32,
-        damping: f32,
-        width: f32,
-        mix: f32,
-    },
-    Delay {
-        frames: u32,
-        feedback: i32,
-        mix: f32,
-        owned: usize,
-    },
+    Volume { volume: i32 },
+    Panning { panning: f32 },
+    Distortion { drive: i32, mix: f32 },
+    Filter { g: f64, resonance: f64, mix: f32 },
+    Eq { g: f64, gain: i32, q: f64 },
+    Reverb(Reverb),
+    Delay(Delay),
+}
+
+#[derive(Clone, Copy, Debug)]
+pub struct Reverb {
+    pub feedback: f32,
+    pub damping: f32,
+    pub width: f32,
+    pub mix: f32,
+}
+
+#[derive(Clone, Copy, Debug)]
+pub struct Delay {
+    pub frames: u32,
+    pub feedback: i32,
+    pub mix: f32,
+    pub owned: usize,
 }
 
 // A call of `run`.
@@ -76,7 +67,7 @@ pub fn reverb_lines(rate: u32) -> [usize; 24] {
 impl Stage {
     pub fn owned(&self) -> usize {
         match *self {
-            Stage::Delay { owned, .. } => owned,
+            Stage::Delay(delay) => delay.owned,
             _ => 0,
         }
     }
@@ -94,33 +85,27 @@ impl Stage {
             Stage::Eq { g, gain, q } => {
                 tangent(g) && (-24..=24).contains(&gain) && (0.0..=1000.0).contains(&q)
             }
-            Stage::Reverb {
-                feedback,
-                damping,
-                width,
-                mix,
-            } => unit(feedback) && unit(damping) && unit(width) && mix.is_finite(),
-            Stage::Delay {
-                frames,
-                feedback,
-                mix,
-                ..
-            } => (1..=480_000).contains(&frames) && feedback <= 24 && mix.is_finite(),
+            Stage::Reverb(r) => {
+                unit(r.feedback) && unit(r.damping) && unit(r.width) && r.mix.is_finite()
+            }
+            Stage::Delay(d) => {
+                (1..=480_000).contains(&d.frames) && d.feedback <= 24 && d.mix.is_finite()
+            }
         }
     }
 
     // How many positions each of its lines has: a reverb's are floats, a delay's frames.
     pub fn lines(&self, rate: u32) -> Vec<usize> {
         match *self {
-            Stage::Reverb { .. } => reverb_lines(rate).to_vec(),
-            Stage::Delay { frames, .. } => vec![frames as usize],
+            Stage::Reverb(_) => reverb_lines(rate).to_vec(),
+            Stage::Delay(delay) => vec![delay.frames as usize],
             _ => vec![],
         }
     }
 
     pub fn floats(&self, rate: u32) -> usize {
         match *self {
-            Stage::Delay { frames, .. } => 2 * frames as usize,
+            Stage::Delay(delay) => 2 * delay.frames as usize,
             _ => self.lines(rate).iter().sum(),
         }
     }

@@ -5,6 +5,8 @@
 //   wav --noise RATE FRAMES   makes a file of noise at full scale to render
 #[allow(dead_code)]
 mod fed;
+#[allow(dead_code)]
+mod linked;
 
 use kira::effect::Effect;
 use kira::effect::reverb::ReverbBuilder;

@@ -1,6 +1,6 @@
 // The flat face's own answers, 101 and 102, and its words for a stage (docs of the crate `face`), read
 // plainly: what a caller's words mean, or that they mean nothing.
-use crate::table::{Refusal, Stage};
+use crate::table::{Delay, Refusal, Reverb, Stage};
 
 fn single(word: u64) -> Option<f32> {
     u32::try_from(word).ok().map(f32::from_bits)
@@ -47,18 +47,18 @@ pub fn stage(words: [u64; 5]) -> Option<Stage> {
                 q: f64::from_bits(d),
             }
         }
-        5 => Stage::Reverb {
+        5 => Stage::Reverb(Reverb {
             feedback: single(a)?,
             damping: single(b)?,
             width: single(c)?,
             mix: single(d)?,
-        },
-        6 => Stage::Delay {
+        }),
+        6 => Stage::Delay(Delay {
             frames: u32::try_from(a).ok()?,
             feedback: decibels(b)?,
             mix: single(c)?,
             owned: d as usize,
-        },
+        }),
         _ => return None,
     })
 }

@@ -1,7 +1,8 @@
-/* Sedhavil for C: the exported functions of the crate `face`, for x86-64 Linux.
+/* Sedhavil for C: the exported functions of the crates `face` and `wav_face`, for x86-64 Linux.
  *
  *     rt staticlib face            writes target/staticlib/libface.a
- *     cc host.c target/staticlib/libface.a
+ *     rt staticlib wav_face        writes target/staticlib/libwav_face.a, for WAV files
+ *     cc host.c target/staticlib/libface.a target/staticlib/libwav_face.a
  *
  * A chain of at most 16 stages works on a block of at most 4,096 stereo frames. Nothing is kept
  * between calls but what the caller lends and gets back: samples, memories, store and progress. Three
@@ -29,9 +30,9 @@
  * 11. Stages are counted in the list from 0. Top stages are those that no delay owns; progress and
  * orders count only them, from 0.
  *
- * What is proved (crates/face, with specs/ to read): number, place and the end contents of all that is
- * lent, for all values of the arguments. It is proved of slices as the language knows them, so the
- * caller sees to it that
+ * What is proved (crates/face and crates/wav_face, with specs/ to read): number, place and the end
+ * contents of all that is lent, for all values of the arguments. It is proved of slices as the language
+ * knows them, so the caller sees to it that
  *   - each pointer points to as many elements as its length says, also where that is 0, and is not null;
  *   - what is lent to be changed overlaps nothing else that is lent, and nobody else uses it meanwhile;
  *   - the floating-point unit is in its default mode: rounding to nearest, no flush-to-zero, no

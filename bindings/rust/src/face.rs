@@ -1,4 +1,5 @@
-//! The exported functions of `crates/face`, each taking slices: the one place with `unsafe`.
+//! The exported functions of `crates/face` and `crates/wav_face`, each taking slices: the one place with
+//! `unsafe`.
 //!
 //! A slice goes over as a pointer and a length. Rust's own rules for slices are what the proofs take for
 //! granted: each points to that many elements, and what is lent by `&mut` overlaps nothing else.

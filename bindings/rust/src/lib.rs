@@ -1,5 +1,5 @@
 //! kira's effects, with the bits that Sedhavil proves: a safe crate over the exported functions of
-//! `crates/face`.
+//! `crates/face` and `crates/wav_face`.
 //!
 //! A [`Chain`] is a list of at most 16 [`Stage`]s with what they hold. It renders blocks of at most
 //! 4,096 stereo frames, or runs single steps of a [`Block`] in an order of your choice. What a block

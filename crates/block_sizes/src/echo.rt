@@ -1,6 +1,5 @@
 // The echo: a delay of 100 frames and a panning after it, over 4,096 frames of noise.
-ghost use mathlib.Core.Path.{_≡_};
-ghost use Prim.Native.Nat.{_+_, _≤_};
+ghost use Prim.Native.Nat.{_+_, _≤_, _<_};
 ghost use lib.ListN.{length};
 use chain::run::run;
 use fresh::memories::Memories;
@@ -31,28 +30,7 @@ fn noise(i: usize) -> f32 {
     std::num::nearest_u32_to_f32(n as u32) / 65536.0 - 0.5
 }
 
-fn fill(samples: &mut [f32])
-    ensures { λ _. ⌜ length (now (samples .exit)) ≡ length (now (samples .entry)) ⌝ }
-{
-    let mut i = 0;
-    while i < samples.len() {
-        samples[i] = noise(i);
-        i += 1;
-    }
-}
-
 // Each stage named equally often: in turn, or all of the first before the second.
-fn put_order(order: &mut [usize], by_frame: bool)
-    ensures { λ _. ⌜ length (now (order .exit)) ≡ length (now (order .entry)) ⌝ }
-{
-    let half = order.len() / 2;
-    let mut i = 0;
-    while i < order.len() {
-        order[i] = entry(i, half, by_frame);
-        i += 1;
-    }
-}
-
 fn entry(i: usize, half: usize, by_frame: bool) -> usize {
     if by_frame {
         return i % 2;
@@ -60,59 +38,64 @@ fn entry(i: usize, half: usize, by_frame: bool) -> usize {
     if i < half { 0 } else { 1 }
 }
 
+fn put_entry(order: &mut [usize], i: usize, by_frame: bool) {
+    if i < order.len() {
+        order[i] = entry(i, order.len() / 2, by_frame);
+    }
+}
+
+// The noise, and an order of no more entries than there are samples.
+fn fill(samples: &mut [f32], order: &mut [usize], by_frame: bool) {
+    let mut i = 0;
+    while i < samples.len() {
+        samples[i] = noise(i);
+        put_entry(order, i, by_frame);
+        i += 1;
+    }
+}
+
 fn run_on(samples: &mut [f32], memories: Memories, store: &mut [f32], order: &[usize]) -> Memories {
     let outcome = run(44100, stages(), 2, samples, memories, store, [0; 16], order);
     outcome.memories
 }
 
-pub(crate) fn in_one_block(by_frame: bool) -> Ended {
-    let mut samples = [0.0; 8192];
-    fill(&mut samples);
-    let mut store = [0.0; 200];
-    let mut order = [0; 8192];
-    put_order(&mut order, by_frame);
-    let memories = run_on(&mut samples, zero(), &mut store, &order);
-    Ended {
-        samples,
-        store,
-        memories,
-    }
-}
-
-// 64 frames from frame `first` on.
-fn run_part(
+// One block of so many samples, from the one at `first` on.
+fn run_block(
     first: usize,
+    size: usize,
     samples: &mut [f32],
     memories: Memories,
     store: &mut [f32],
     order: &[usize],
 ) -> Memories
-    requires { ⌜ first + 128 ≤ length (now samples) ⌝ }
-    ensures { λ _. ⌜ (length (now (samples .exit)) ≡ length (now (samples .entry))) × (length (now (store .exit)) ≡ length (now (store .entry))) ⌝ }
+    requires { ⌜ first + size ≤ length (now samples) ⌝ }
 {
-    run_on(&mut samples[first..first + 128], memories, store, order)
+    run_on(&mut samples[first..first + size], memories, store, order)
 }
 
-fn run_parts(samples: &mut [f32], store: &mut [f32], order: &[usize]) -> Memories
-    ensures { λ _. ⌜ (length (now (samples .exit)) ≡ length (now (samples .entry))) × (length (now (store .exit)) ≡ length (now (store .entry))) ⌝ }
+// Block after block, of as many samples as the order has entries.
+fn run_blocks(samples: &mut [f32], store: &mut [f32], order: &[usize]) -> Memories
+    requires { ⌜ (0 < length (now order)) × (length (now order) ≤ 8192) ⌝ }
 {
+    let size = order.len();
     let mut memories = zero();
     let mut first = 0;
-    while first + 128 <= samples.len() {
-        let after = run_part(first, samples, memories, store, order);
+    while first + size <= samples.len() {
+        let after = run_block(first, size, samples, memories, store, order);
         memories = after;
-        first += 128;
+        first += size;
     }
     memories
 }
 
-pub(crate) fn in_parts(by_frame: bool) -> Ended {
+// The echo in blocks of as many samples as the order has room for.
+pub(crate) fn echo(order: &mut [usize], by_frame: bool) -> Ended
+    requires { ⌜ (0 < length (now order)) × (length (now order) ≤ 8192) ⌝ }
+{
     let mut samples = [0.0; 8192];
-    fill(&mut samples);
+    fill(&mut samples, order, by_frame);
     let mut store = [0.0; 200];
-    let mut order = [0; 128];
-    put_order(&mut order, by_frame);
-    let memories = run_parts(&mut samples, &mut store, &order);
+    let memories = run_blocks(&mut samples, &mut store, order);
     Ended {
         samples,
         store,

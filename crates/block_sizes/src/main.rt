@@ -2,12 +2,9 @@
 // frame and stage after stage. Writes two samples of the first way, and of each other way whether it
 // left the same; docs/EXAMPLE.md says why it must.
 mod echo;
-mod same;
 
 use crate::echo::Ended;
-use crate::echo::in_one_block;
-use crate::echo::in_parts;
-use crate::same::is_same;
+use crate::echo::echo;
 use float::bits::to_bits_f32;
 use libc::STDOUT_FILENO;
 
@@ -15,6 +12,28 @@ fn say_bits(name: &[u8], x: f32) {
     io::write_all(STDOUT_FILENO, name);
     io::print_hex(STDOUT_FILENO, to_bits_f32(x) as u64, 8);
     io::write_all(STDOUT_FILENO, b"\n");
+}
+
+// Whether two ways left the same samples, line and memories, bit for bit.
+fn is_same(a: Ended, b: Ended) -> bool {
+    let samples = a.samples;
+    let other_samples = b.samples;
+    if !same::floats(&samples, &other_samples) {
+        return false;
+    }
+    let store = a.store;
+    let other_store = b.store;
+    if !same::floats(&store, &other_store) {
+        return false;
+    }
+    let floats = a.memories.floats;
+    let other_floats = b.memories.floats;
+    if !same::floats(&floats, &other_floats) {
+        return false;
+    }
+    let positions = a.memories.positions;
+    let other_positions = b.memories.positions;
+    same::numbers(&positions, &other_positions)
 }
 
 fn compare(name: &[u8], ended: Ended, first: Ended) {
@@ -27,15 +46,25 @@ fn compare(name: &[u8], ended: Ended, first: Ended) {
 }
 
 fn main() {
-    let first = in_one_block(true);
+    let mut whole = [0; 8192];
+    let mut part = [0; 128];
+    let first = echo(&mut whole, true);
     let samples = first.samples;
     say_bits(b"frame 150, left: ", samples[300]);
     say_bits(b"frame 4095, right: ", samples[8191]);
     compare(
         b"one block, stage after stage: ",
-        in_one_block(false),
+        echo(&mut whole, false),
         first,
     );
-    compare(b"64 blocks, frame after frame: ", in_parts(true), first);
-    compare(b"64 blocks, stage after stage: ", in_parts(false), first);
+    compare(
+        b"64 blocks, frame after frame: ",
+        echo(&mut part, true),
+        first,
+    );
+    compare(
+        b"64 blocks, stage after stage: ",
+        echo(&mut part, false),
+        first,
+    );
 }

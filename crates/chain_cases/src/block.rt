@@ -8,26 +8,28 @@ use crate::say::volume;
 use crate::say::with;
 use fresh::memories::Memories;
 
-// A delay of 2 frames at list place 1.
-fn on_position(name: &[u8], position: usize) {
-    let mut samples = [0.0; 0];
-    let mut store = [0.0; 4];
-    let order = [0; 0];
+// The first position of list place 1.
+fn at_position(position: usize) -> Memories {
     let mut positions = [0; 384];
     positions[24] = position;
+    Memories {
+        positions,
+        floats: [0.0; 320],
+    }
+}
+
+// A delay of 2 frames at list place 1.
+fn on_position(name: &[u8], position: usize) {
     case(
         name,
         44100,
         with(all(volume(0)), 1, delay(2, 0)),
         2,
-        &mut samples,
-        Memories {
-            positions,
-            floats: [0.0; 320],
-        },
-        &mut store,
+        &mut [0.0; 0],
+        at_position(position),
+        &mut [0.0; 4],
         [0; 16],
-        &order,
+        &[0; 0],
     );
 }
 
@@ -36,28 +38,15 @@ pub(crate) fn positions() {
     on_position(b"position_2_of_2", 2);
 }
 
+// So many volume controls at 0 dB, on a new block.
+fn on_volumes(name: &[u8], count: usize, samples: &mut [f32], order: &[usize]) {
+    on_block(name, all(volume(0)), count, samples, [0; 16], order);
+}
+
 pub(crate) fn lengths() {
-    let order = [0; 0];
-    let mut odd = [0.0; 3];
-    on_block(b"samples_3", all(volume(0)), 1, &mut odd, [0; 16], &order);
-    let mut full = [0.0; 8192];
-    on_block(
-        b"samples_8192",
-        all(volume(0)),
-        1,
-        &mut full,
-        [0; 16],
-        &order,
-    );
-    let mut over = [0.0; 8194];
-    on_block(
-        b"samples_8194",
-        all(volume(0)),
-        1,
-        &mut over,
-        [0; 16],
-        &order,
-    );
+    on_volumes(b"samples_3", 1, &mut [0.0; 3], &[0; 0]);
+    on_volumes(b"samples_8192", 1, &mut [0.0; 8192], &[0; 0]);
+    on_volumes(b"samples_8194", 1, &mut [0.0; 8194], &[0; 0]);
 }
 
 // Two frames.
@@ -105,52 +94,26 @@ fn on_owning(name: &[u8], progress: [usize; 16], order: &[usize]) {
 }
 
 pub(crate) fn owning() {
-    let through = [0, 1];
-    on_owning(b"owning_order_0_1", counts(0, 0), &through);
-    let owned = [0, 1, 2];
-    on_owning(b"owning_order_0_1_2", counts(0, 0), &owned);
-    on_owning(b"owning_progress_1_2", counts(1, 2), &through);
+    on_owning(b"owning_order_0_1", counts(0, 0), &[0, 1]);
+    on_owning(b"owning_order_0_1_2", counts(0, 0), &[0, 1, 2]);
+    on_owning(b"owning_progress_1_2", counts(1, 2), &[0, 1]);
 }
 
 // Two stages, one frame.
 fn on_order(name: &[u8], order: &[usize]) {
-    let mut samples = [0.0; 2];
-    on_block(name, all(volume(0)), 2, &mut samples, [0; 16], order);
+    on_volumes(name, 2, &mut [0.0; 2], order);
 }
 
 pub(crate) fn orders() {
-    let back = [1, 0];
-    on_order(b"order_1_0", &back);
-    let again = [0, 1, 0];
-    on_order(b"order_0_1_0", &again);
-    let through = [0, 1];
-    on_order(b"order_0_1", &through);
-    let unknown = [0, 2];
-    on_order(b"order_0_2", &unknown);
-    let part = [0];
-    on_order(b"order_0", &part);
+    on_order(b"order_1_0", &[1, 0]);
+    on_order(b"order_0_1_0", &[0, 1, 0]);
+    on_order(b"order_0_1", &[0, 1]);
+    on_order(b"order_0_2", &[0, 2]);
+    on_order(b"order_0", &[0]);
 }
 
 pub(crate) fn empty() {
-    let mut none = [0.0; 0];
-    let mut frame = [0.0; 2];
-    let nothing = [0; 0];
-    let entry = [0];
-    on_block(b"empty", all(volume(0)), 0, &mut none, [0; 16], &nothing);
-    on_block(
-        b"entry_no_stages",
-        all(volume(0)),
-        0,
-        &mut frame,
-        [0; 16],
-        &entry,
-    );
-    on_block(
-        b"entry_no_frames",
-        all(volume(0)),
-        1,
-        &mut none,
-        [0; 16],
-        &entry,
-    );
+    on_volumes(b"empty", 0, &mut [0.0; 0], &[0; 0]);
+    on_volumes(b"entry_no_stages", 0, &mut [0.0; 2], &[0]);
+    on_volumes(b"entry_no_frames", 1, &mut [0.0; 0], &[0]);
 }

@@ -53,17 +53,20 @@ pub(crate) fn counts() {
     on_list(b"stages_17", 44100, all(volume(0)), 17);
 }
 
-pub(crate) fn shapes() {
-    let plain = all(volume(0));
-    let depth_1 = with(plain, 3, delay(1, 1));
+pub(crate) fn depths() {
+    let depth_1 = with(all(volume(0)), 3, delay(1, 1));
     let depth_2 = with(depth_1, 2, delay(1, 2));
     let depth_3 = with(depth_2, 1, delay(1, 3));
-    let depth_4 = with(depth_3, 0, delay(1, 4));
     on_list(b"depth_3", 44100, depth_3, 5);
-    on_list(b"depth_4", 44100, depth_4, 5);
-    on_list(b"owned_to_end", 44100, with(plain, 1, delay(1, 1)), 3);
-    on_list(b"owned_past_end", 44100, with(plain, 1, delay(1, 1)), 2);
-    let inner = with(plain, 2, delay(1, 1));
+    on_list(b"depth_4", 44100, with(depth_3, 0, delay(1, 4)), 5);
+}
+
+// A delay at list place 1 that owns the next, and one at place 2.
+pub(crate) fn owned() {
+    let outer = with(all(volume(0)), 1, delay(1, 1));
+    on_list(b"owned_to_end", 44100, outer, 3);
+    on_list(b"owned_past_end", 44100, outer, 2);
+    let inner = with(all(volume(0)), 2, delay(1, 1));
     on_list(
         b"owned_to_owners_end",
         44100,
@@ -76,24 +79,36 @@ pub(crate) fn shapes() {
         with(inner, 1, delay(1, 1)),
         5,
     );
+}
+
+pub(crate) fn most_owned() {
     let most = delay(1, 18446744073709551615);
     on_list(
         b"owned_18446744073709551615",
         44100,
-        with(plain, 0, most),
+        with(all(volume(0)), 0, most),
         1,
     );
 }
 
-pub(crate) fn settings() {
+pub(crate) fn volumes() {
     on_second(b"volume_24", volume(24));
     on_second(b"volume_25", volume(25));
+}
+
+pub(crate) fn delays() {
     on_second(b"delay_0", delay(0, 0));
     on_second(b"delay_1", delay(1, 0));
     on_second(b"delay_480000", delay(480000, 0));
     on_second(b"delay_480001", delay(480001, 0));
+}
+
+pub(crate) fn gains() {
     on_second(b"eq_gain_24", eq_filter(24));
     on_second(b"eq_gain_25", eq_filter(25));
+}
+
+pub(crate) fn distortions() {
     on_second(b"drive_-59", distortion(-59, 0.5));
     on_second(b"drive_-60", distortion(-60, 0.5));
     on_second(b"mix_nan", distortion(0, 0.0 / 0.0));

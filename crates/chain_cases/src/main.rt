@@ -8,8 +8,13 @@ mod unchanged;
 fn main() {
     list::rates();
     list::counts();
-    list::shapes();
-    list::settings();
+    list::depths();
+    list::owned();
+    list::most_owned();
+    list::volumes();
+    list::delays();
+    list::gains();
+    list::distortions();
     list::stores();
     block::positions();
     block::lengths();

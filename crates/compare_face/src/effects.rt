@@ -7,12 +7,12 @@ ghost use Rattle.effect.specs.Distortion.{distortionOf};
 ghost use Rattle.integrators.specs.Integrators.{weightsOf};
 ghost use Rattle.filters.specs.Filter.{filterOf};
 ghost use Rattle.filters.specs.EqFilter.{coefficientsOf, eqOf};
-ghost use Rattle.compare_face.specs.Codes.{kindAt, modeAt, eqKindAt};
+ghost use Rattle.codes.specs.Codes.{clipAt, modeAt, bandAt};
 ghost use Rattle.compare_face.specs.Structs.{pairIn, pairOut, integratorsIn, processedOut, weightsOut, coefficientsOut};
-use effect::distortion::DistortionKind;
+use codes::band_at;
+use codes::clip_at;
+use codes::mode_at;
 use filters::eq_filter::Coefficients;
-use filters::eq_filter::EqFilterKind;
-use filters::filter::FilterMode;
 use frame::Frame;
 use integrators::Filtered;
 use integrators::Integrators;
@@ -51,42 +51,6 @@ pub struct Six {
     pub m0: f64,
     pub m1: f64,
     pub m2: f64,
-}
-
-fn kind_at(code: u32) -> DistortionKind
-    ensures { λ r. ⌜ r ≡ kindAt code ⌝ }
-{
-    if code == 0 {
-        return DistortionKind::HardClip;
-    }
-    DistortionKind::SoftClip
-}
-
-fn mode_at(code: u32) -> FilterMode
-    ensures { λ r. ⌜ r ≡ modeAt code ⌝ }
-{
-    if code == 0 {
-        return FilterMode::LowPass;
-    }
-    if code == 1 {
-        return FilterMode::BandPass;
-    }
-    if code == 2 {
-        return FilterMode::HighPass;
-    }
-    FilterMode::Notch
-}
-
-fn eq_kind_at(code: u32) -> EqFilterKind
-    ensures { λ r. ⌜ r ≡ eqKindAt code ⌝ }
-{
-    if code == 0 {
-        return EqFilterKind::Bell;
-    }
-    if code == 1 {
-        return EqFilterKind::LowShelf;
-    }
-    EqFilterKind::HighShelf
 }
 
 fn frame_in(pair: Pair) -> Frame
@@ -159,9 +123,9 @@ pub extern "C" fn sedhavil_panning_control(input: Pair, panning: f32) -> Pair
 
 #[no_mangle]
 pub extern "C" fn sedhavil_distortion(input: Pair, kind: u32, drive: i32, mix: f32) -> Pair
-    ensures { λ r. ⌜ r ≡ pairOut (distortionOf (kindAt kind) drive mix (pairIn input)) ⌝ }
+    ensures { λ r. ⌜ r ≡ pairOut (distortionOf (clipAt kind) drive mix (pairIn input)) ⌝ }
 {
-    pair_out(effect::distortion::process(frame_in(input), kind_at(kind), drive, mix))
+    pair_out(effect::distortion::process(frame_in(input), clip_at(kind as u64), drive, mix))
 }
 
 #[no_mangle]
@@ -178,7 +142,7 @@ pub extern "C" fn sedhavil_filter(
     answer_out(filters::filter::process(
         frame_in(input),
         integrators_in(memory),
-        mode_at(mode),
+        mode_at(mode as u64),
         g,
         resonance,
         mix,
@@ -194,12 +158,12 @@ pub extern "C" fn sedhavil_eq_filter(
     q: f64,
     gain: i32,
 ) -> Answer
-    ensures { λ r. ⌜ r ≡ processedOut (eqOf (eqKindAt kind) g q gain (integratorsIn memory) (pairIn input)) ⌝ }
+    ensures { λ r. ⌜ r ≡ processedOut (eqOf (bandAt kind) g q gain (integratorsIn memory) (pairIn input)) ⌝ }
 {
     answer_out(filters::eq_filter::process(
         frame_in(input),
         integrators_in(memory),
-        eq_kind_at(kind),
+        band_at(kind as u64),
         g,
         q,
         gain,
@@ -220,9 +184,9 @@ pub extern "C" fn sedhavil_weigh(g: f64, k: f64) -> Three
 
 #[no_mangle]
 pub extern "C" fn sedhavil_coefficients(kind: u32, g: f64, q: f64, gain: i32) -> Six
-    ensures { λ r. ⌜ r ≡ coefficientsOut (coefficientsOf (eqKindAt kind) g q gain) ⌝ }
+    ensures { λ r. ⌜ r ≡ coefficientsOut (coefficientsOf (bandAt kind) g q gain) ⌝ }
 {
-    let c = Coefficients::calculate(eq_kind_at(kind), g, q, gain);
+    let c = Coefficients::calculate(band_at(kind as u64), g, q, gain);
     Six {
         a1: c.a1,
         a2: c.a2,

@@ -12,10 +12,11 @@ use Rattle.line.specs.Held.{Held, holds}
 use Rattle.order.specs.Chain.{State}
 use Rattle.stage.specs.declared.kind.Stage.{Stage}
 use Rattle.stage.specs.First.{firstOf}
+use Rattle.answer.specs.declared.Answer as answers
 use Rattle.chain.specs.Chain.{state}
-use Rattle.words.specs.Words.{countOf, unknownAt}
+use Rattle.words.specs.Words.{countOf, unknownAt, stagesOf}
 use Rattle.face.specs.declared.Answer.{Answer}
-use Rattle.face.specs.Call.{answer, faultOf, read}
+use Rattle.face.specs.Call.{answer, answerOut, faultOf, read}
 
 -- ---- what a test that was passed says of the lengths
 pub record Sized (p f g : ℕ) : Type 0 where
@@ -55,6 +56,10 @@ module _ (fault r : Answer) (e : r ≡ fault) where
   pub refused : {A : Type 0} (x y : A) → (r .number ≡ 0 → ⊥) → y ≡ read fault x y
   refused {A} x y h = sym (ap (λ (b : Bool). cond b x y) (ne-eqb (fault .number) 0 (λ z. h (sym number-is ∙ z))))
 
+  -- the fault is the answer, and everything is as it was
+  pub refused-both : {A : Type 0} (a : Answer) (x y : A) → (r .number ≡ 0 → ⊥) → (r ≡ read fault a fault) × (y ≡ read fault x y)
+  refused-both a x y h = (e ∙ refused a fault h, refused x y h)
+
   -- z was made of stages and of what was lent, and these are those of the words and those that came in
   pub taken : {A B : Type 0} (made : List Stage → B → A) {l l' : List Stage} {s s' : B} (y z : A) → r .number ≡ 0 → l ≡ l' → s ≡ s' → z ≡ made l s → z ≡ read fault (made l' s') y
   taken {A} made {l} {l'} {s} {s'} y z h q p m = m ∙ (λ i. made (q i) (p i)) ∙ sym (ap (λ (b : Bool). cond b (made l' s') y) (eq-eqb (fault .number) 0 (number-is ∙ h)))
@@ -65,3 +70,19 @@ state-with xs st a b c = λ i. state xs st (a i) (b i) (c i)
 
 pub holds-with : {st st' : List Float} {p p' : List ℕ} {f f' : List Float} → st ≡ st' → p ≡ p' → f ≡ f' → holds st p f ≡ holds st' p' f'
 holds-with a b c = λ i. holds (a i) (b i) (c i)
+
+-- ---- a call on a block that can be read: its memories and progress were gathered from what was lent, and what it left of them was handed back there
+module _ (words : List ℕ) (xs st : List Float) (p : List ℕ) (f : List Float) (g : List ℕ) (fault : Answer) (e : fault ≡ faultOf words (length p) (length f) (length g)) (h : fault .number ≡ 0) where
+  pub block-taken : (answering : List Stage → State Float Held → answers.Answer) (leaving : List Stage → State Float Held → State Float Held)
+      {l : List Stage} → l ≡ stagesOf words
+      → {p₁ : List ℕ} {f₁ : List Float} {g₁ : List ℕ} → (length p ≡ 384 → p₁ ≡ p) × (length f ≡ 320 → f₁ ≡ f) → (length g ≡ 16 → g₁ ≡ g)
+      → {a : answers.Answer} → a ≡ answering l (state xs st p₁ f₁ g₁)
+      → (xs' st' : List Float) {p₂ : List ℕ} {f₂ : List Float} {g₂ : List ℕ} → state xs' st' p₂ f₂ g₂ ≡ leaving l (state xs st p₁ f₁ g₁)
+      → {r : Answer} {p₃ : List ℕ} {f₃ : List Float} {g₃ : List ℕ}
+      → (r ≡ answerOut a) × (length p ≡ 384 → p₃ ≡ p₂) × (length f ≡ 320 → f₃ ≡ f₂) × (length g ≡ 16 → g₃ ≡ g₂)
+      → (r ≡ read (faultOf words (length p) (length f) (length g)) (answerOut (answering (stagesOf words) (state xs st p f g))) (faultOf words (length p) (length f) (length g)))
+      × (state xs' st' p₃ f₃ g₃ ≡ read (faultOf words (length p) (length f) (length g)) (leaving (stagesOf words) (state xs st p f g)) (state xs st p f g))
+  block-taken answering leaving ls gathered got ea xs' st' el back =
+      let z = sized words (length p) (length f) (length g) fault e h in
+      let same = state-with xs st (gathered .0 (z .positions)) (gathered .1 (z .floats)) (got (z .progress)) in
+      (taken _ fault e (λ l s. answerOut (answering l s)) _ _ h ls same (back .0 ∙ ap answerOut ea), taken _ fault e leaving _ _ h ls same (state-with xs' st' (back .1 (z .positions)) (back .2 (z .floats)) (back .3 (z .progress)) ∙ el))

@@ -1,22 +1,24 @@
--- A loop that copies one list over another of the same length. Assumes nothing.
-use mathlib.Core.Path.{_≡_, ap, sym, _∙_}
-use mathlib.Core.List.{List, append-nil}
-use Prim.Native.Nat.{ℕ, suc, _+_, _≤_, _<_}
+-- A loop that copies one list over another of the same length, over the element type. Assumes nothing.
+use mathlib.Core.Path.{_≡_, refl, _∙_}
+use mathlib.Core.List.{List}
+use Prim.Native.Nat.{ℕ, _+_, _≤_, _<_}
 use native.Mathlib.Omega.{arith}
-use native.Mathlib.Numerals.{add-one}
-use lib.ListN.{length, getD, set, drop-of-length-le}
-use lib.Seq.{paste, paste-suc, take-all}
+use lib.ListN.{length, getD, set, length-set}
+use lib.Seq.{getD-set-same, getD-set-other, ext-getD}
+use borrow.Author.Count.{below-more}
 
-module _ {A : Type 0} (from to : List A) (i : ℕ) where
-  pub copied-more : (d : A) (now : List A) → i < length to → i < length from → now ≡ paste to 0 from i → set now i (getD from i d) ≡ paste to 0 from (i + 1)
-  copied-more d now h g e =
-      let z : 0 + i ≡ i = omega arith in
-      ap (λ (l : List A). set l i (getD from i d)) e
-      ∙ ap (λ (k : ℕ). set (paste to 0 from i) k (getD from i d)) (sym z)
-      ∙ paste-suc to 0 from i d (omega arith) g
-      ∙ ap (paste to 0 from) (sym (add-one i))
+module _ {A : Type 0} (d : A) (from to₀ : List A) where
+  -- the loop's invariant: the first i are copied
+  abbrev pub Copied : List A → ℕ → Type 0
+  Copied to i = (i ≤ length from) × (length to ≡ length to₀) × (length to₀ ≡ length from) × ((k : ℕ) → k < i → getD to k d ≡ getD from k d)
 
-  pub copied-all : length from ≤ i → length to ≤ i → paste to 0 from i ≡ from
-  copied-all h g =
-      let z : 0 + i ≡ i = omega arith in
-      rw (z, take-all i from h, drop-of-length-le to g) (append-nil from)
+  pub copied-none : length to₀ ≡ length from → Copied to₀ 0
+  copied-none e = (omega arith, refl, e, λ k h. absurd (omega arith))
+
+  pub copied-more : (to : List A) (i : ℕ) → i < length from → Copied to i → Copied (set to i (getD from i d)) (i + 1)
+  copied-more to i h v =
+      let room : i < length to = omega arith in
+      (omega arith, simp length-set (v .1), v .2, below-more _ i (λ k g. getD-set-other to i k _ d (omega arith) ∙ v .3 k g) (getD-set-same to i _ d room))
+
+  pub copied-all : (to : List A) (i : ℕ) → length from ≤ i → Copied to i → to ≡ from
+  copied-all to i h v = ext-getD d to from (v .1 ∙ v .2) (λ k g. v .3 k (omega arith))

@@ -8,7 +8,6 @@ use Rattle.face.proofs.sedhavil_run as run
 use Rattle.face.proofs.sedhavil_render as render
 use Rattle.face.proofs.sedhavil_start as start
 use Rattle.face.proofs.sedhavil_floats_needed as floats-needed
-use Rattle.face.proofs.file as file
 
 -- what `run` and `render` leave: samples, store, positions, floats and progress
 pub run-single : SingleLent run.Reads.Post (λ κs s. state (now (s .1 .1 .0)) (now (s .1 .1 .1 .1 .1 .0)) (now (s .1 .1 .1 .0)) (now (s .1 .1 .1 .1 .0)) (now (s .1 .1 .1 .1 .1 .1 .0)))
@@ -23,13 +22,3 @@ start-single κs a r r' s s' p q = (p .0 ∙ sym (q .0), p .1 ∙ sym (q .1))
 
 pub floats-needed-single : Single floats-needed.Reads.Post
 floats-needed-single κs a r r' s s' p q = p ∙ sym q
-
-pub wav-header-single : Single file.sedhavil_wav_header.Reads.Post
-wav-header-single κs a r r' s s' p q = p ∙ sym q
-
--- what `frames_in` leaves, the samples, and what `frames_out` does, the bytes
-pub frames-in-single : SingleLent file.sedhavil_frames_in.Reads.Post (λ κs s. now (s .1 .0))
-frames-in-single κs a r r' s s' p q = (p .0 ∙ sym (q .0), p .1 ∙ sym (q .1))
-
-pub frames-out-single : SingleLent file.sedhavil_frames_out.Reads.Post (λ κs s. now (s .1 .0))
-frames-out-single κs a r r' s s' p q = (p .0 ∙ sym (q .0), p .1 ∙ sym (q .1))

@@ -1,5 +1,5 @@
-// The crates `chain` and, in `file`, `wav_header` and `wav` for C and Rust to link, with flat arguments: five words a stage,
-// memories and progress in slices. Anything may be passed in: a slice of the wrong length gets answer 101,
+// The crate `chain` for C and Rust to link, with flat arguments: five words a stage, memories and
+// progress in slices. Anything may be passed in: a slice of the wrong length gets answer 101,
 // words that are no stage get 102, both before document 01's checks; refused means untouched.
 ghost use mathlib.Core.Path.{_≡_};
 ghost use lib.ListN.{length};
@@ -8,8 +8,9 @@ ghost use Rattle.chain.specs.Chain.{state};
 ghost use Rattle.face.specs.Call.{answerOut, faultOf};
 ghost use Rattle.face.specs.Face.{runAnswer, runLeft, renderAnswer, renderLeft, startAnswer, startLeft, roomOut, neededAnswer};
 
-pub mod file;
 mod slices;
+
+use chain::run::Outcome;
 
 // Document 01's number and place; 101 or 102 for a call that cannot be read; 0 for an accepted one.
 #[repr(C)]
@@ -81,6 +82,26 @@ fn fault_of(stages: &[u64], positions: usize, floats: usize, progress: usize) ->
     }
 }
 
+// What a call on a block leaves of memories and progress goes back into the slices, and its answer out.
+fn hand_back(
+    outcome: Outcome,
+    positions: &mut [usize],
+    floats: &mut [f32],
+    progress: &mut [usize],
+) -> Answer
+    ensures { λ r. ⌜ (r ≡ answerOut (outcome .answer))
+        × (length (now (positions .entry)) ≡ 384 → now (positions .exit) ≡ outcome .memories .positions)
+        × (length (now (floats .entry)) ≡ 320 → now (floats .exit) ≡ outcome .memories .floats)
+        × (length (now (progress .entry)) ≡ 16 → now (progress .exit) ≡ outcome .progress) ⌝ }
+{
+    let memories = outcome.memories;
+    let done = outcome.progress;
+    let answer = outcome.answer;
+    slices::scatter(memories, positions, floats);
+    slices::copy_numbers(&done, progress);
+    answer_out(answer)
+}
+
 // Steps of top stages in a given order.
 #[no_mangle]
 pub extern "C" fn sedhavil_run(
@@ -111,11 +132,7 @@ pub extern "C" fn sedhavil_run(
         slices::progress_of(progress),
         order,
     );
-    let done = outcome.progress;
-    slices::scatter(outcome.memories, positions, floats);
-    slices::copy_numbers(&done, progress);
-    let answer = outcome.answer;
-    answer_out(answer)
+    hand_back(outcome, positions, floats, progress)
 }
 
 // Every stage to the last frame.
@@ -146,11 +163,7 @@ pub extern "C" fn sedhavil_render(
         store,
         slices::progress_of(progress),
     );
-    let done = outcome.progress;
-    slices::scatter(outcome.memories, positions, floats);
-    slices::copy_numbers(&done, progress);
-    let answer = outcome.answer;
-    answer_out(answer)
+    hand_back(outcome, positions, floats, progress)
 }
 
 // A fresh start: the needed floats of the store and all memories at zero.

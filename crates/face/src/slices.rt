@@ -3,10 +3,13 @@ ghost use mathlib.Core.Path.{_≡_};
 ghost use lib.ListN.{length};
 use fresh::memories::Memories;
 
+// A slice of another length is left as it is.
 pub(crate) fn copy_numbers(from: &[usize], to: &mut [usize])
-    requires { ⌜ length (now to) ≡ length (now from) ⌝ }
-    ensures { λ _. ⌜ now (to .exit) ≡ now (from .entry) ⌝ }
+    ensures { λ _. ⌜ (length (now (to .entry)) ≡ length (now (from .entry)) → now (to .exit) ≡ now (from .entry)) ⌝ }
 {
+    if to.len() != from.len() {
+        return;
+    }
     let mut i = 0;
     while i < from.len() {
         to[i] = from[i];
@@ -15,9 +18,11 @@ pub(crate) fn copy_numbers(from: &[usize], to: &mut [usize])
 }
 
 fn copy_floats(from: &[f32], to: &mut [f32])
-    requires { ⌜ length (now to) ≡ length (now from) ⌝ }
-    ensures { λ _. ⌜ now (to .exit) ≡ now (from .entry) ⌝ }
+    ensures { λ _. ⌜ (length (now (to .entry)) ≡ length (now (from .entry)) → now (to .exit) ≡ now (from .entry)) ⌝ }
 {
+    if to.len() != from.len() {
+        return;
+    }
     let mut i = 0;
     while i < from.len() {
         to[i] = from[i];
@@ -26,8 +31,7 @@ fn copy_floats(from: &[f32], to: &mut [f32])
 }
 
 pub(crate) fn gathered(from_positions: &[usize], from_floats: &[f32]) -> Memories
-    requires { ⌜ (length (now «from_positions») ≡ 384) × (length (now «from_floats») ≡ 320) ⌝ }
-    ensures { λ r. ⌜ (r .positions ≡ now («from_positions» .entry)) × (r .floats ≡ now («from_floats» .entry)) ⌝ }
+    ensures { λ r. ⌜ (length (now («from_positions» .entry)) ≡ 384 → r .positions ≡ now («from_positions» .entry)) × (length (now («from_floats» .entry)) ≡ 320 → r .floats ≡ now («from_floats» .entry)) ⌝ }
 {
     let mut positions = [0; 384];
     let mut floats = [0.0; 320];
@@ -37,8 +41,7 @@ pub(crate) fn gathered(from_positions: &[usize], from_floats: &[f32]) -> Memorie
 }
 
 pub(crate) fn scatter(memories: Memories, to_positions: &mut [usize], to_floats: &mut [f32])
-    requires { ⌜ (length (now «to_positions») ≡ 384) × (length (now «to_floats») ≡ 320) ⌝ }
-    ensures { λ _. ⌜ (now («to_positions» .exit) ≡ memories .positions) × (now («to_floats» .exit) ≡ memories .floats) ⌝ }
+    ensures { λ _. ⌜ (length (now («to_positions» .entry)) ≡ 384 → now («to_positions» .exit) ≡ memories .positions) × (length (now («to_floats» .entry)) ≡ 320 → now («to_floats» .exit) ≡ memories .floats) ⌝ }
 {
     let positions = memories.positions;
     let floats = memories.floats;
@@ -47,8 +50,7 @@ pub(crate) fn scatter(memories: Memories, to_positions: &mut [usize], to_floats:
 }
 
 pub(crate) fn progress_of(progress: &[usize]) -> [usize; 16]
-    requires { ⌜ length (now progress) ≡ 16 ⌝ }
-    ensures { λ r. ⌜ r ≡ now (progress .entry) ⌝ }
+    ensures { λ r. ⌜ (length (now (progress .entry)) ≡ 16 → r ≡ now (progress .entry)) ⌝ }
 {
     let mut done = [0; 16];
     copy_numbers(progress, &mut done);

@@ -6,10 +6,10 @@
 ghost use mathlib.Core.Path.{_≡_};
 ghost use Prim.Native.Nat.{_≤_};
 ghost use lib.ListN.{length};
+use crate::left::is_same;
 use crate::put::put_floats;
 use crate::put::put_numbers;
 use crate::put::put_words;
-use crate::same::is_same;
 use crate::units::long;
 use crate::units::number;
 use crate::units::unit;

@@ -3,8 +3,8 @@
 // counted as one. Writes how many calls were accepted and refused, how many differ, and which was the
 // first that does.
 mod case;
+mod left;
 mod put;
-mod same;
 mod units;
 
 use crate::case::next_case;

@@ -1,5 +1,6 @@
-// Sections of a record's body, from a unit up to another: each entry has a place and what is put there.
-ghost use Prim.Native.Nat.{_≤_};
+// Sections of a record's body, from a unit up to another: each entry has a place and what is put there,
+// a word, a number or a float.
+ghost use Prim.Native.Nat.{_≤_, _<_};
 use crate::units::float;
 use crate::units::number;
 use crate::units::unit;
@@ -23,32 +24,49 @@ fn put_float(floats: &mut [f32], i: usize, float: f32) {
     }
 }
 
-pub(crate) fn put_words(body: &[u8], from: usize, to: usize, words: &mut [u64])
-    requires { ⌜ to ≤ 65535 ⌝ }
+// One entry. The two of the three that its section is not of are empty, so nothing is put there.
+fn put_entry(body: &[u8], at: usize, words: &mut [u64], numbers: &mut [usize], floats: &mut [f32])
+    requires { ⌜ at ≤ 65535 ⌝ }
+{
+    let i = unit(body, at);
+    put_word(words, i, word(body, at + 1));
+    put_number(numbers, i, number(body, at + 1));
+    put_float(floats, i, float(body, at + 1));
+}
+
+// Entries of so many units each.
+fn put(
+    body: &[u8],
+    from: usize,
+    to: usize,
+    units: usize,
+    words: &mut [u64],
+    numbers: &mut [usize],
+    floats: &mut [f32],
+)
+    requires { ⌜ (to ≤ 65535) × (0 < units) × (units ≤ 5) ⌝ }
 {
     let mut at = from;
     while at < to {
-        put_word(words, unit(body, at), word(body, at + 1));
-        at += 5;
+        put_entry(body, at, words, numbers, floats);
+        at += units;
     }
+}
+
+pub(crate) fn put_words(body: &[u8], from: usize, to: usize, words: &mut [u64])
+    requires { ⌜ to ≤ 65535 ⌝ }
+{
+    put(body, from, to, 5, words, &mut [0; 0], &mut [0.0; 0]);
 }
 
 pub(crate) fn put_numbers(body: &[u8], from: usize, to: usize, numbers: &mut [usize])
     requires { ⌜ to ≤ 65535 ⌝ }
 {
-    let mut at = from;
-    while at < to {
-        put_number(numbers, unit(body, at), number(body, at + 1));
-        at += 2;
-    }
+    put(body, from, to, 2, &mut [0; 0], numbers, &mut [0.0; 0]);
 }
 
 pub(crate) fn put_floats(body: &[u8], from: usize, to: usize, floats: &mut [f32])
     requires { ⌜ to ≤ 65535 ⌝ }
 {
-    let mut at = from;
-    while at < to {
-        put_float(floats, unit(body, at), float(body, at + 1));
-        at += 3;
-    }
+    put(body, from, to, 3, &mut [0; 0], &mut [0; 0], floats);
 }

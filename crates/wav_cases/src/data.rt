@@ -1,4 +1,4 @@
-// Samples and frames.
+// Cases of samples, by their numbers, and of frames.
 use crate::say;
 use float::bits::from_bits_f32;
 use wav::frames::frames_in;
@@ -57,42 +57,30 @@ const FLOATS: [u32; 26] = [
     0xbf000000,
 ];
 
-pub(crate) fn samples_in() {
+pub(crate) fn sample_in(k: usize) {
     let bytes = CODES;
     let mut samples = [0.0; 8];
     frames_in(&bytes, &mut samples);
-    let mut k = 0;
-    while k < 8 {
+    if k < 8 {
         say::name(b"in");
         say::next(k as u64);
         say::bits(samples[k]);
         say::end();
-        k += 1;
     }
 }
 
-fn floats() -> [f32; 26] {
-    let mut samples = [0.0; 26];
-    let mut k = 0;
-    while k < 26 {
+// Each float at a place of its own in a block.
+pub(crate) fn sample_out(k: usize) {
+    if k < 26 {
+        let mut samples = [0.0; 26];
         samples[k] = from_bits_f32(FLOATS[k]);
-        k += 1;
-    }
-    samples
-}
-
-pub(crate) fn samples_out() {
-    let samples = floats();
-    let mut bytes = [0; 52];
-    frames_out(&samples, &mut bytes);
-    let mut k = 0;
-    while k < 26 {
+        let mut bytes = [0; 52];
+        frames_out(&samples, &mut bytes);
         say::name(b"out");
         say::next(k as u64);
         say::byte(bytes[2 * k]);
         say::byte(bytes[2 * k + 1]);
         say::end();
-        k += 1;
     }
 }
 

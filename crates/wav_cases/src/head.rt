@@ -1,4 +1,5 @@
-// The header. All its fields lie in eleven words of four bytes, of which cases change some.
+// Cases of the header, by their numbers. All its fields lie in eleven words of four bytes, of which cases
+// change some.
 ghost use Prim.Native.Nat.{_<_};
 use crate::say;
 use wav_header::read;
@@ -86,27 +87,18 @@ fn bytes_of(words: [u32; 11]) -> [u8; 44] {
 }
 
 // What the first n bytes of a header are answered, after the case's name and number.
-fn say_cut(name: &[u8], k: usize, bytes: &[u8], n: usize, most: u32) {
-    if n <= bytes.len() {
+fn say_cut(name: &[u8], k: usize, words: [u32; 11], n: usize, most: u32) {
+    let bytes = bytes_of(words);
+    if n <= 44 {
         say::name(name);
         say::next(k as u64);
         say::answer(read(&bytes[..n], most));
     }
 }
 
-fn say_whole(name: &[u8], k: usize, words: [u32; 11], most: u32) {
-    let bytes = bytes_of(words);
-    say_cut(name, k, &bytes, 44, most);
-}
-
 // A header cut at each length, and whole.
-pub(crate) fn cuts() {
-    let bytes = bytes_of(GOOD);
-    let mut n = 0;
-    while n < 45 {
-        say_cut(b"cut", n, &bytes, n, 192000);
-        n += 1;
-    }
+pub(crate) fn cut(k: usize) {
+    say_cut(b"cut", k, GOOD, k, 192000);
 }
 
 // Faults 21 to 24, each by a binary digit of k, from the lowest.
@@ -130,38 +122,32 @@ fn faulty(k: usize) -> [u32; 11] {
 }
 
 // All sets of the five faults, the fifth being a header of 43 bytes.
-pub(crate) fn faults() {
-    let mut k = 0;
-    while k < 32 {
-        let bytes = bytes_of(faulty(k));
-        say_cut(b"faults", k, &bytes, if k < 16 { 44 } else { 43 }, 192000);
-        k += 1;
+pub(crate) fn faults(k: usize) {
+    say_cut(
+        b"faults",
+        k,
+        faulty(k),
+        if k < 16 { 44 } else { 43 },
+        192000,
+    );
+}
+
+pub(crate) fn wrong_word(k: usize) {
+    if k < 15 {
+        say_cut(b"word", k, word(GOOD, PLACES[k], VALUES[k]), 44, 192000);
     }
 }
 
-pub(crate) fn words() {
-    let mut k = 0;
-    while k < 15 {
-        say_whole(b"word", k, word(GOOD, PLACES[k], VALUES[k]), 192000);
-        k += 1;
+pub(crate) fn rate(name: &[u8], k: usize, most: u32) {
+    if k < 8 {
+        let words = word(word(GOOD, 6, RATES[k]), 7, BYTE_RATES[k]);
+        say_cut(name, k, words, 44, most);
     }
 }
 
-// Two words at a time, from two tables.
-fn pairs(name: &[u8], at: usize, values: &[u32], at_2: usize, values_2: &[u32], most: u32) {
-    let mut k = 0;
-    while k < values.len() && k < values_2.len() {
-        let words = word(word(GOOD, at, values[k]), at_2, values_2[k]);
-        say_whole(name, k, words, most);
-        k += 1;
+pub(crate) fn size(k: usize) {
+    if k < 9 {
+        let words = word(word(GOOD, 10, SIZES[k]), 1, RIFF_SIZES[k]);
+        say_cut(b"size", k, words, 44, 192000);
     }
-}
-
-pub(crate) fn rates() {
-    pairs(b"rate", 6, &RATES, 7, &BYTE_RATES, 192000);
-    pairs(b"rate_to_22050", 6, &RATES, 7, &BYTE_RATES, 22050);
-}
-
-pub(crate) fn sizes() {
-    pairs(b"size", 10, &SIZES, 1, &RIFF_SIZES, 192000);
 }

@@ -6,12 +6,7 @@ use lib.Dec.{ltb, leb, eqb}
 use lib.IntN.{ℤ, pos, negsuc}
 use lib.Ieee.{Float, binary32, binary64, ofBits}
 use lib.ListN.{length, getD}
-use Rattle.effect.specs.declared.distortion.DistortionKind.{DistortionKind}
-use Rattle.effect.specs.declared.distortion.DistortionKind.the-variants.{HardClip, SoftClip}
-use Rattle.filters.specs.declared.filter.FilterMode.{FilterMode}
-use Rattle.filters.specs.declared.filter.FilterMode.the-variants.{LowPass, BandPass, HighPass, Notch}
-use Rattle.filters.specs.declared.eq_filter.EqFilterKind.{EqFilterKind}
-use Rattle.filters.specs.declared.eq_filter.EqFilterKind.the-variants.{Bell, LowShelf, HighShelf}
+use Rattle.codes.specs.Codes.{clipAt, modeAt, bandAt}
 use Rattle.stage.specs.declared.kind.Stage.{Stage}
 use Rattle.stage.specs.declared.kind.Stage.the-variants.{VolumeControl, PanningControl, Distortion, Filter, EqFilter, Reverb, Delay}
 use Rattle.words.specs.declared.Five.{Five}
@@ -39,16 +34,6 @@ singleOf w = ofBits binary32 (shortOf w)
 
 abbrev pub doubleOf : ℕ → Float
 doubleOf w = ofBits binary64 w
-
--- a case of a kind by its place in document 01's list
-unfoldable pub clipAt : ℕ → DistortionKind
-clipAt w = cond (eqb w 0) HardClip SoftClip
-
-unfoldable pub modeAt : ℕ → FilterMode
-modeAt w = cond (eqb w 0) LowPass (cond (eqb w 1) BandPass (cond (eqb w 2) HighPass Notch))
-
-unfoldable pub bandAt : ℕ → EqFilterKind
-bandAt w = cond (eqb w 0) Bell (cond (eqb w 1) LowShelf HighShelf)
 
 -- ---- five words: the kind by its place in document 01's list, then its numbers in the order of `Stage`; words that a kind does not use are ignored
 

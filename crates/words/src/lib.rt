@@ -4,10 +4,10 @@ ghost use mathlib.Core.Path.{_≡_};
 ghost use mathlib.Core.Bool.{_&&_};
 ghost use Prim.Native.Nat.{_+_, _*_, _<_};
 ghost use Rattle.stage.specs.First.{firstOf};
-ghost use Rattle.words.specs.Words.{isShort, shortOf, isLevel, levelOf, singleOf, clipAt, modeAt, bandAt, isStage, lineStageOf, stageOf, wordAt, countOf, fiveAt, unknownAt, stagesOf};
-use effect::distortion::DistortionKind;
-use filters::eq_filter::EqFilterKind;
-use filters::filter::FilterMode;
+ghost use Rattle.words.specs.Words.{isShort, shortOf, isLevel, levelOf, singleOf, isStage, lineStageOf, stageOf, wordAt, countOf, fiveAt, unknownAt, stagesOf};
+use codes::band_at;
+use codes::clip_at;
+use codes::mode_at;
 use float::bits::from_bits_f32;
 use float::bits::from_bits_f64;
 use stage::kind::Stage;
@@ -67,42 +67,6 @@ fn single(word: u64) -> f32
     ensures { λ r. ⌜ r ≡ singleOf word ⌝ }
 {
     from_bits_f32(short(word))
-}
-
-fn clip_at(code: u64) -> DistortionKind
-    ensures { λ r. ⌜ r ≡ clipAt code ⌝ }
-{
-    if code == 0 {
-        return DistortionKind::HardClip;
-    }
-    DistortionKind::SoftClip
-}
-
-fn mode_at(code: u64) -> FilterMode
-    ensures { λ r. ⌜ r ≡ modeAt code ⌝ }
-{
-    if code == 0 {
-        return FilterMode::LowPass;
-    }
-    if code == 1 {
-        return FilterMode::BandPass;
-    }
-    if code == 2 {
-        return FilterMode::HighPass;
-    }
-    FilterMode::Notch
-}
-
-fn band_at(code: u64) -> EqFilterKind
-    ensures { λ r. ⌜ r ≡ bandAt code ⌝ }
-{
-    if code == 0 {
-        return EqFilterKind::Bell;
-    }
-    if code == 1 {
-        return EqFilterKind::LowShelf;
-    }
-    EqFilterKind::HighShelf
 }
 
 fn is_stage(w: Five) -> bool

@@ -11,7 +11,7 @@ use Rattle.fresh.specs.Start.{startedOf}
 use Rattle.words.specs.Words.{countOf}
 use Rattle.face.specs.Call.{answerOut}
 use Rattle.face.specs.Face.{startAnswer, startLeft}
-use Rattle.face.proofs.Calls.{sized, refused, taken, holds-with}
+use Rattle.face.proofs.Calls.{sized, refused-both, taken, holds-with}
 use borrow.Author.Needs.{needs}
 use Rattle.face.proofs.sedhavil_start.Statement.{statement}
 use Rattle.face.proofs.sedhavil_start.Tie as tie
@@ -21,7 +21,7 @@ fault-of-requires c κs = search needs
 
 returns : tie.Need-returns
 unfolding startAnswer startLeft
-returns c = (c .before .before .fault-of .ensures ∙ refused _ _ (c .before .before .fault-of .ensures) _ _ (c .if1 .taken), refused _ _ (c .before .before .fault-of .ensures) _ _ (c .if1 .taken))
+returns c = refused-both _ _ (c .before .before .fault-of .ensures) _ _ _ (c .if1 .taken)
 
 stages-of-requires : tie.Need-stages-of-requires
 stages-of-requires c κs = search needs
@@ -30,9 +30,7 @@ start-requires : tie.Need-start-requires
 start-requires c κs = search needs
 
 scatter-requires : tie.Need-scatter-requires
-scatter-requires c κs =
-    let z = sized (now (c .before .before .before .before .before .before .before .before .before .before .before .before .before .before .args .stages)) (length (now (c .before .before .before .before .before .before .before .before .before .before .before .before .before .before .args .positions))) (length (now (c .before .before .before .before .before .before .before .before .before .before .before .before .before .before .args .floats))) 16 (c .before .before .before .before .before .before .before .before .before .fault-of .result) (c .before .before .before .before .before .before .before .before .before .fault-of .ensures) (c .before .before .before .before .before .before .before .if1 .left) in
-    (z .positions, z .floats)
+scatter-requires c κs = search needs
 
 answer-out-requires : tie.Need-answer-out-requires
 answer-out-requires c κs = search needs
@@ -50,10 +48,11 @@ returns-2 : tie.Need-returns-2
 unfolding startAnswer startLeft
 returns-2 c =
     let a = c .before .before .before .before .before .before .before .before .before .before .before .before .before .before .before .before .before .before .before .before .args in
+    let z = sized (now (a .stages)) (length (now (a .positions))) (length (now (a .floats))) 16 (c .before .before .before .before .before .before .before .before .before .before .before .before .before .before .before .fault-of .result) (c .before .before .before .before .before .before .before .before .before .before .before .before .before .before .before .fault-of .ensures) (c .before .before .before .before .before .before .before .before .before .before .before .before .before .if1 .left) in
     let lent : now (a .store) ≡ now (a .store) = refl in
     let zero = c .before .before .before .before .before .before .before .before .before .before .start .ensures .0 .1 in (
       taken _ _ (c .before .before .before .before .before .before .before .before .before .before .before .before .before .before .before .fault-of .ensures) (λ l (s : List Float). answerOut (chainAnswer (a .rate) l (countOf (now (a .stages))) (length s))) _ _ (c .before .before .before .before .before .before .before .before .before .before .before .before .before .if1 .left) (c .before .before .before .before .before .before .before .before .before .before .before .before .stages-of .ensures) lent (c .answer-out .ensures ∙ ap answerOut (c .before .before .before .before .before .before .before .before .before .before .start .ensures .0 .0)),
-      taken _ _ (c .before .before .before .before .before .before .before .before .before .before .before .before .before .before .before .fault-of .ensures) (λ l s. holds (startedOf (a .rate) l (countOf (now (a .stages))) s) (zeroMemories .positions) (zeroMemories .floats)) _ _ (c .before .before .before .before .before .before .before .before .before .before .before .before .before .if1 .left) (c .before .before .before .before .before .before .before .before .before .before .before .before .stages-of .ensures) lent (holds-with (c .before .before .before .before .before .before .before .before .before .before .start .ensures .1) (c .before .before .before .before .before .scatter .ensures .0 ∙ ap (λ m. m .positions) zero) (c .before .before .before .before .before .scatter .ensures .1 ∙ ap (λ m. m .floats) zero)),
+      taken _ _ (c .before .before .before .before .before .before .before .before .before .before .before .before .before .before .before .fault-of .ensures) (λ l s. holds (startedOf (a .rate) l (countOf (now (a .stages))) s) (zeroMemories .positions) (zeroMemories .floats)) _ _ (c .before .before .before .before .before .before .before .before .before .before .before .before .before .if1 .left) (c .before .before .before .before .before .before .before .before .before .before .before .before .stages-of .ensures) lent (holds-with (c .before .before .before .before .before .before .before .before .before .before .start .ensures .1) (c .before .before .before .before .before .scatter .ensures .0 (z .positions) ∙ ap (λ m. m .positions) zero) (c .before .before .before .before .before .scatter .ensures .1 (z .floats) ∙ ap (λ m. m .floats) zero)),
     )
 
 pub sedhavil-start-spec : {M : Type 1} → statement M

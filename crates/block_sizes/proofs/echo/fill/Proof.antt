@@ -1,4 +1,4 @@
--- `block_sizes::echo::fill` is safe and ends, and keeps the number of samples. Assumes nothing.
+-- `echo::fill` is safe and ends: what it is lent keeps its length. Assumes nothing.
 use Prim.Native.Nat.{_-_, _≤_}
 use mathlib.Core.Path.{_≡_}
 use native.Mathlib.Omega.{arith}
@@ -7,10 +7,10 @@ use Rattle.block_sizes.proofs.echo.fill.Statement.{statement}
 use Rattle.block_sizes.proofs.echo.fill.Tie as tie
 
 abbrev Inv-loop : tie.InvT-loop
-Inv-loop samples₀ i₀ samples i = (i ≤ length samples) × (length samples ≡ length samples₀)
+Inv-loop samples₀ order₀ by-frame i₀ samples order i = (i ≤ length samples) × (length samples ≡ length samples₀) × (length order ≡ length order₀)
 
 abbrev μ-loop : tie.MeasureT-loop
-μ-loop samples₀ i₀ samples i = length samples - i
+μ-loop samples₀ order₀ by-frame i₀ samples order i = length samples - i
 
 loop-holds : tie.Need-loop-holds Inv-loop μ-loop
 loop-holds c = omega arith
@@ -24,6 +24,9 @@ mul-samples c = omega arith
 slice-write-samples : tie.Need-slice-write-samples Inv-loop μ-loop
 slice-write-samples c = omega arith
 
+put-entry-requires : tie.Need-put-entry-requires Inv-loop μ-loop
+put-entry-requires c κs = tt
+
 add-i : tie.Need-add-i Inv-loop μ-loop
 add-i c = omega arith
 
@@ -36,8 +39,11 @@ loop-again c = rw length-set (omega arith)
 same-length : tie.Need-same-length Inv-loop μ-loop
 same-length c = omega arith
 
+same-length-2 : tie.Need-same-length-2 Inv-loop μ-loop
+same-length-2 c = omega arith
+
 returns : tie.Need-returns Inv-loop μ-loop
-returns c = omega arith
+returns c = tt
 
 pub fill-spec : {M : Type 1} → statement M
 fill-spec =
@@ -49,8 +55,10 @@ fill-spec =
     noise-requires
     mul-samples
     slice-write-samples
+    put-entry-requires
     add-i
     loop-less
     loop-again
     same-length
+    same-length-2
     returns)

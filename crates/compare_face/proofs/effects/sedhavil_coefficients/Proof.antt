@@ -5,8 +5,8 @@ use borrow.Author.Needs.{needs}
 use Rattle.compare_face.proofs.effects.sedhavil_coefficients.Statement.{statement}
 use Rattle.compare_face.proofs.effects.sedhavil_coefficients.Tie as tie
 
-eq-kind-at-requires : tie.Need-eq-kind-at-requires
-eq-kind-at-requires c κs = search needs
+band-at-requires : tie.Need-band-at-requires
+band-at-requires c κs = search needs
 
 calculate-requires : tie.Need-calculate-requires
 calculate-requires c κs = search needs
@@ -15,4 +15,4 @@ returns : tie.Need-returns
 returns c = cc (toZ-ofZ w32 (c .before .before .args .gain) (c .before .before .fits .gain))
 
 pub sedhavil-coefficients-spec : {M : Type 1} → statement M
-sedhavil-coefficients-spec = tie.close (tie.spec eq-kind-at-requires calculate-requires returns)
+sedhavil-coefficients-spec = tie.close (tie.spec band-at-requires calculate-requires returns)

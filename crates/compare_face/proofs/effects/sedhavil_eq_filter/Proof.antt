@@ -11,8 +11,8 @@ frame-in-requires c κs = search needs
 integrators-in-requires : tie.Need-integrators-in-requires
 integrators-in-requires c κs = search needs
 
-eq-kind-at-requires : tie.Need-eq-kind-at-requires
-eq-kind-at-requires c κs = search needs
+band-at-requires : tie.Need-band-at-requires
+band-at-requires c κs = search needs
 
 process-requires : tie.Need-process-requires
 process-requires c κs = search needs
@@ -24,4 +24,4 @@ returns : tie.Need-returns
 returns c = cc (toZ-ofZ w32 (c .before .before .before .before .before .args .gain) (c .before .before .before .before .before .fits .gain))
 
 pub sedhavil-eq-filter-spec : {M : Type 1} → statement M
-sedhavil-eq-filter-spec = tie.close (tie.spec frame-in-requires integrators-in-requires eq-kind-at-requires process-requires answer-out-requires returns)
+sedhavil-eq-filter-spec = tie.close (tie.spec frame-in-requires integrators-in-requires band-at-requires process-requires answer-out-requires returns)

@@ -1,4 +1,4 @@
--- The two copies' promises. Assumes nothing.
+-- The two copies' promises, of arrays of 384 and 320. Assumes nothing.
 use mathlib.Core.Path.{sym, _∙_}
 use borrow.Author.Needs.{needs}
 use Rattle.face.proofs.slices.scatter.Statement.{statement}
@@ -8,13 +8,13 @@ slice-aggregate-copy-numbers : tie.Need-slice-aggregate-copy-numbers
 slice-aggregate-copy-numbers c = search needs
 
 copy-numbers-requires : tie.Need-copy-numbers-requires
-copy-numbers-requires c κs = c .before .before .before .before .before .before .pre .0 ∙ sym (search needs)
+copy-numbers-requires c κs = search needs
 
 slice-aggregate-copy-floats : tie.Need-slice-aggregate-copy-floats
 slice-aggregate-copy-floats c = search needs
 
 copy-floats-requires : tie.Need-copy-floats-requires
-copy-floats-requires c κs = c .before .before .before .before .before .before .before .before .before .before .before .pre .1 ∙ sym (search needs)
+copy-floats-requires c κs = search needs
 
 same-length : tie.Need-same-length
 same-length c = search needs
@@ -23,7 +23,7 @@ same-length-2 : tie.Need-same-length-2
 same-length-2 c = search needs
 
 returns : tie.Need-returns
-returns c = search needs
+returns c = (λ e. c .before .before .before .before .before .before .before .copy-numbers .ensures (e ∙ sym (search needs)), λ e. c .before .before .copy-floats .ensures (e ∙ sym (search needs)))
 
 pub scatter-spec : {M : Type 1} → statement M
 scatter-spec =

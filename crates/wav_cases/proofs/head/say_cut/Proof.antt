@@ -1,10 +1,12 @@
 -- `head::say_cut` is safe. Assumes nothing.
 use mathlib.Core.Path.{sym}
 use borrow.Author.Needs.{needs}
-use denote.Ref.{now}
 use lib.Seq.{length-take-le}
 use Rattle.wav_cases.proofs.head.say_cut.Statement.{statement}
 use Rattle.wav_cases.proofs.head.say_cut.Tie as tie
+
+bytes-of-requires : tie.Need-bytes-of-requires
+bytes-of-requires c κs = search needs
 
 name-requires : tie.Need-name-requires
 name-requires c κs = search needs
@@ -12,8 +14,11 @@ name-requires c κs = search needs
 next-requires : tie.Need-next-requires
 next-requires c κs = search needs
 
+array-share-prefix-bytes : tie.Need-array-share-prefix-bytes
+array-share-prefix-bytes c = search needs
+
 slice-aggregate-read : tie.Need-slice-aggregate-read
-slice-aggregate-read c = sym (length-take-le (c .before .before .before .before .before .before .args .n) (now (c .before .before .before .before .before .before .args .bytes)) (c .before .before .before .if1 .taken))
+slice-aggregate-read c = sym (length-take-le (c .before .before .before .before .before .before .args .n) _ (search needs))
 
 read-requires : tie.Need-read-requires
 read-requires c κs = search needs
@@ -31,8 +36,10 @@ pub say-cut-spec : {M : Type 1} → statement M
 say-cut-spec =
     tie.close
     (tie.spec
+    bytes-of-requires
     name-requires
     next-requires
+    array-share-prefix-bytes
     slice-aggregate-read
     read-requires
     answer-requires
