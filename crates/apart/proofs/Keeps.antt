@@ -10,8 +10,8 @@ use lib.ListN.{length, length-set}
 use Rattle.integrators.specs.declared.Integrators.{Integrators}
 use Rattle.integrators.specs.declared.Filtered.{Filtered}
 use Rattle.frame.specs.declared.Frame.{Frame}
-use Rattle.line.specs.Held.{Held, front, Ran}
-use Rattle.line.proofs.Keeps.{Keeps, Same, same-refl, cond-keeps, joined-keeps, frame-in-keeps}
+use Rattle.line.specs.Held.{front, Ran}
+use Rattle.line.proofs.Keeps.{Keeps, same-refl, cond-keeps, joined-keeps, frame-in-keeps}
 use Rattle.reverb.proofs.Keeps.{reverb-keeps}
 use Rattle.stage.specs.declared.kind.Stage.{Stage}
 use Rattle.stage.specs.declared.kind.Stage.the-variants.{VolumeControl, PanningControl, Distortion, Filter, EqFilter, Reverb, Delay}

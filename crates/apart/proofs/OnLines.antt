@@ -24,7 +24,6 @@ use Rattle.stage.specs.Kind.{stageAt, nextPlace}
 use Rattle.stage.specs.Layout.{sizeOf, frontPlaces, backPlaces}
 use Rattle.stage.specs.Lines.{linesOf}
 use Rattle.stage.proofs.Next.{next-le, next-more}
-use Rattle.stage.proofs.Firsts.{some-none, none-clear}
 use Rattle.step.specs.Step.{remembering, delayStage, stageStep, inTurn, spanOf, stepOf, processAt}
 use Rattle.step.proofs.Levels.{volume-is, panning-is, distortion-is, filter-is, eq-is, reverb-is, delay-is, step-is, span-zero, span-shallow, span-is}
 use Rattle.step.proofs.Steps.{place-inside, place-empty, place-past}

@@ -1,5 +1,5 @@
 -- Calls that cannot be read: ranked before document 01's check 1, with numbers outside its table. Definitions only.
-use mathlib.Core.Bool.{Bool, not, cond}
+use mathlib.Core.Bool.{not, cond}
 use mathlib.Core.List.{List}
 use Prim.Native.Nat.{ℕ, _%_}
 use lib.Dec.{eqb}

@@ -1,7 +1,7 @@
 // The square root of an f32 and of an f64, correctly rounded: the digits of the root are worked out
 // one by one on a u64, and one law over the format turns them into the bits of the answer.
 ghost use mathlib.Core.Path.{_≡_};
-ghost use Prim.Native.Nat.{_+_, _*_, _/_, _^_, _≤_, _<_, min};
+ghost use Prim.Native.Nat.{_+_, _*_, _/_, _^_, _≤_, _<_};
 ghost use lib.Ieee.{binary32, binary64, ofBits};
 ghost use Rattle.rounding.specs.Root.{sqrtOf, nearestRoot};
 ghost use Rattle.rounding.specs.Inner.{Rooted, Rootable, ScaledRoot};

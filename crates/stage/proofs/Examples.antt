@@ -7,7 +7,7 @@ use lib.IntN.{ℤ, pos, negsuc}
 use lib.Ieee.{Float, nan, fin, binary32, binary64, le}
 use Rattle.float.specs.Literal.{literal}
 use Rattle.float.specs.Finite.{finiteOf}
-use Rattle.tuning.specs.Tuning.{reverbLines, reverbFloats}
+use Rattle.tuning.specs.Tuning.{reverbLines}
 use Rattle.effect.specs.declared.distortion.DistortionKind.the-variants.{HardClip}
 use Rattle.filters.specs.declared.filter.FilterMode.the-variants.{LowPass}
 use Rattle.filters.specs.declared.eq_filter.EqFilterKind.the-variants.{Bell}

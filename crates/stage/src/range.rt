@@ -1,9 +1,7 @@
 // Whether a stage's settings are finite and in their ranges, by the table of document 01.
 ghost use mathlib.Core.Path.{_≡_};
 ghost use mathlib.Core.Bool.{_&&_};
-ghost use lib.Ieee.{binary32, binary64};
-ghost use lib.IntN.{pos, negsuc};
-ghost use Rattle.stage.specs.Range.{between, betweenZ, tangentOf, unitRange, delayRange, inRangeOf};
+ghost use Rattle.stage.specs.Range.{betweenZ, tangentOf, unitRange, delayRange, inRangeOf};
 use crate::kind::Stage;
 use float::finite::is_finite_f32;
 use float::finite::is_finite_f64;

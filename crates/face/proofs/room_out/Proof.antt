@@ -1,5 +1,5 @@
 -- The test on the number is the definition's. Assumes nothing.
-use mathlib.Core.Path.{_≡_, sym, _∙_}
+use mathlib.Core.Path.{sym, _∙_}
 use borrow.Author.Tests.{eq-eqb, ne-eqb}
 use Rattle.face.specs.Face.{roomOut}
 use borrow.Author.Needs.{needs}

@@ -1,5 +1,5 @@
 -- A call that cannot be read is refused; of any other, what `check_chain` promises of a store of no floats. Assumes nothing.
-use mathlib.Core.Path.{_≡_, refl, ap, _∙_}
+use mathlib.Core.Path.{refl, ap, _∙_}
 use Prim.Native.Nat.{ℕ}
 use denote.Ref.{now}
 use Rattle.refuse.specs.Refusals.{chainAnswer}
