@@ -2,7 +2,7 @@
 use mathlib.Core.Path.{_≡_, refl, sym, ap, _∙_}
 use mathlib.Core.Bool.{Bool, true, false, cond, true≢false, false≢true}
 use Prim.Native.Nat.{ℕ, zero, suc, _-_, _*_, _<_, _≤_, zero-le}
-use native.Mathlib.Nat.{zero-add, min-le-right}
+use native.Mathlib.Nat.{min-le-right}
 use native.Mathlib.Omega.{arith}
 use borrow.Author.Tests.{ltb-true, ltb-false, lt-ltb, le-ltb, le-leb}
 use lib.IntN.{ℤ, pos, negsuc, _-ℤ_, natAbs}
@@ -23,11 +23,7 @@ came {z} {y} e h = ap (λ (x : ℤ). toZ w16 (ofZ w16 x)) e ∙ toZ-ofZ (record 
 pub read-back : (z : ℤ) → mag z < 32768 → toZ w16 (ofZ w16 z) ≡ z
 read-back z h = came refl h
 
--- -1 - n, and back
-pub less-one : (n : ℕ) → negsuc 0 -ℤ pos n ≡ negsuc n
-less-one zero = refl
-less-one (suc n) = ap (λ (k : ℕ). negsuc (suc k)) (zero-add n)
-
+-- back from -1 - n
 back-one : (n : ℕ) → negsuc 0 -ℤ negsuc n ≡ pos n
 back-one n = rw (le-ltb (suc n) 1 (omega arith)) (ap pos (omega arith))
 

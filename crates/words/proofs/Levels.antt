@@ -1,30 +1,14 @@
 -- Laws of a level in a word: below 2^31 it is that number, and from 2^64 - 2^31 on it is negative, in two's complement. Assumes nothing.
-use mathlib.Core.Path.{_≡_, refl, ap, _∙_}
-use Prim.Native.Nat.{ℕ, zero, suc, _-_, _^_, _≤_, _<_}
-use native.Mathlib.Nat.{zero-add}
+use mathlib.Core.Path.{_≡_, ap, _∙_}
+use Prim.Native.Nat.{ℕ, _-_, _^_, _≤_, _<_}
 use native.Mathlib.Omega.{arith}
 use native.Mathlib.Decide.{decLt}
-use lib.IntN.{ℤ, pos, negsuc, _-ℤ_}
+use lib.IntN.{ℤ, pos, negsuc}
 use mir.Syntax.{w32}
 use mir.Val.{SFits, toZ, ofZ}
 use mir.ValLaws.{toZ-pos, toZ-ofZ}
 use borrow.Author.Tests.{lt-ltb, le-ltb, le-leb, lt-leb}
 use Rattle.words.specs.Words.{levelOf}
-
--- -1 - k, as i32 has it
-module _ (k : ℕ) (h : k < 2 ^ 31) where
-  below-zero : (n : ℕ) → negsuc 0 -ℤ pos n ≡ negsuc n
-  below-zero zero = refl
-  below-zero (suc n) = simp zero-add
-
-  negative : negsuc 0 -ℤ toZ w32 k ≡ negsuc k
-  negative = ap (λ (z : ℤ). negsuc 0 -ℤ z) (toZ-pos w32 k h) ∙ below-zero k
-
-  pub negative-fits : SFits w32 (negsuc 0 -ℤ toZ w32 k)
-  negative-fits = rw negative (record { sfits = h })
-
-  pub negative-is : toZ w32 (ofZ w32 (negsuc 0 -ℤ toZ w32 k)) ≡ negsuc k
-  negative-is = toZ-ofZ w32 (negsuc 0 -ℤ toZ w32 k) negative-fits ∙ negative
 
 module _ (w : ℕ) where
   level-is : w < 2 ^ 31 → pos w ≡ levelOf w

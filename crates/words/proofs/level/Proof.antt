@@ -2,7 +2,9 @@
 use mathlib.Core.Path.{_∙_}
 use Prim.Native.Nat.{_-_, _^_}
 use native.Mathlib.Omega.{arith}
-use Rattle.words.proofs.Levels.{negative-fits, negative-is, level-pos, level-neg, level-none}
+use mir.Syntax.{w32}
+use Rattle.float.proofs.Complement.{complement-fits, complement-is}
+use Rattle.words.proofs.Levels.{level-pos, level-neg, level-none}
 use borrow.Author.Needs.{needs}
 use Rattle.words.proofs.level.Statement.{statement}
 use Rattle.words.proofs.level.Tie as tie
@@ -20,10 +22,10 @@ cast-result-2 : tie.Need-cast-result-2
 cast-result-2 c = search needs
 
 sub-result-2 : tie.Need-sub-result-2
-sub-result-2 c = negative-fits (2 ^ 64 - 1 - c .before .before .args .word) (omega arith)
+sub-result-2 c = complement-fits w32 (2 ^ 64 - 1 - c .before .before .args .word) (omega arith)
 
 returns-2 : tie.Need-returns-2
-returns-2 c = negative-is (2 ^ 64 - 1 - c .before .before .args .word) (omega arith) ∙ level-neg (c .before .before .args .word) (c .before .if1 .left) (c .if2 .taken)
+returns-2 c = complement-is w32 (2 ^ 64 - 1 - c .before .before .args .word) (omega arith) ∙ level-neg (c .before .before .args .word) (c .before .if1 .left) (c .if2 .taken)
 
 returns-3 : tie.Need-returns-3
 returns-3 c = level-none (c .before .before .args .word) (c .before .if1 .left) (c .if2 .left)
