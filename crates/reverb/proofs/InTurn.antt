@@ -1,5 +1,5 @@
 -- One more line on the front of each stretch, and those after it on the rest: the definition, as the code takes the slices apart. One law for any line, and then a comb and an all-pass. Assumes nothing.
-use mathlib.Core.Path.{_≡_, _∙_}
+use mathlib.Core.Path.{_≡_, ap, _∙_}
 use mathlib.Core.List.{List, [], _++_}
 use Prim.Native.Nat.{ℕ, _+_, _≤_, _<_}
 use native.Mathlib.Numerals.{add-one}
@@ -38,7 +38,7 @@ module _ (f : ℕ) (step next : Float → Held → Heard) (l : List ℕ) (k e : 
     unfolding linesInTurn back joined
     lines-more h g n-is m first rest =
         rw (rest-home n line store m st, first-home positions at po, slice-cons k e l 0 h g, ← n-is, first)
-        (rw (← (rw (add-one k, rest-lent n line store m, first-lent positions at) at rest)))
+        (ap (λ r. heard (r .out) (joined (holds line (set (take 1 positions) 0 at) own) (r .held))) (rw (add-one k, rest-lent n line store m, first-lent positions at) at rest))
 
 module _ (n : ℕ) (x : Float) (line store : List Float) (positions : List ℕ) (floats : List Float) where
   -- an all-pass gave p
