@@ -17,13 +17,13 @@ use Rattle.line.specs.Frames.{frameAt}
 use Rattle.line.specs.Held.{front, back, joined, Ran, ran}
 use Rattle.line.specs.Position.{nextPosition}
 use Rattle.line.proofs.Keeps.{Keeps}
-use Rattle.tuning.proofs.Tunings.{lines-length}
 use Rattle.stage.specs.declared.kind.Stage.{Stage}
 use Rattle.stage.specs.declared.kind.Stage.the-variants.{VolumeControl, PanningControl, Distortion, Filter, EqFilter, Reverb, Delay}
 use Rattle.stage.specs.Kind.{stageAt, nextPlace}
 use Rattle.stage.specs.Layout.{sizeOf, frontPlaces, backPlaces}
 use Rattle.stage.specs.Lines.{linesOf}
 use Rattle.stage.proofs.Next.{next-le, next-more}
+use Rattle.stage.proofs.FewLines.{few-lines}
 use Rattle.step.specs.Step.{remembering, delayStage, stageStep, inTurn, spanOf, stepOf, processAt}
 use Rattle.step.proofs.Levels.{volume-is, panning-is, distortion-is, filter-is, eq-is, reverb-is, delay-is, step-is, span-zero, span-shallow, span-is}
 use Rattle.step.proofs.Steps.{place-inside, place-empty, place-past}
@@ -33,17 +33,6 @@ use Rattle.apart.proofs.Moved.{OnLines, Moved, next-on, reverb-moves}
 -- ps are the positions of the places from i up to e, 24 of each: of the stage at place j, the kth is below the length of the kth line
 abbrev pub Good : ℕ → List Stage → ℕ → ℕ → List ℕ → Type 0
 Good rate l i e ps = (j k : ℕ) → i ≤ j → j < e → k < length (linesOf rate (stageAt l j)) → getD ps (24 * (j - i) + k) 0 < getD (linesOf rate (stageAt l j)) k 0
-
--- a stage has no more lines than a place has positions
-pub few-lines : (rate : ℕ) (s : Stage) → length (linesOf rate s) ≤ 24
-unfolding linesOf
-few-lines rate (VolumeControl volume) = omega arith
-few-lines rate (PanningControl panning) = omega arith
-few-lines rate (Distortion kind drive mix) = omega arith
-few-lines rate (Filter mode g resonance mix) = omega arith
-few-lines rate (EqFilter kind g gain q) = omega arith
-few-lines rate (Reverb feedback damping width mix) = omega (arith, lines-length rate)
-few-lines rate (Delay frames feedback mix owned) = omega arith
 
 module _ (rate : ℕ) (l : List Stage) where
   -- ---- of the places up to m, of those from m on, and of both together

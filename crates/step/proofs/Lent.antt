@@ -1,12 +1,12 @@
 -- What a slice is once its front, or what follows it, was lent and is back, where the front is as long as is asked, or shorter where the slice is. Assumes nothing.
 use mathlib.Core.Path.{_≡_, refl, ap, _∙_}
-use mathlib.Core.List.{List, [], _∷_, _++_, append-nil}
+use mathlib.Core.List.{List, [], _∷_, _++_}
 use Prim.Native.Nat.{ℕ, zero, suc, _-_, _<_, min}
 use native.Mathlib.Decide.{decLt}
 use native.Mathlib.Omega.{arith}
 use lib.ListN.{length, set, take, drop, length-take, length-drop, drop-of-length-le}
 use lib.Seq.{take-all, take-length, drop-length, take-at, drop-at}
-use Rattle.line.proofs.Lent.{lent, home, rest-lent, rest-home}
+use Rattle.line.proofs.Lent.{lent, home, home-again, rest-lent, rest-home}
 
 -- to take or drop as many as there are is to take or drop all
 module _ {A : Type 0} (m : ℕ) (xs : List A) where
@@ -40,18 +40,15 @@ module _ {A : Type 0} (m n : ℕ) (xs : List A) (e : n ≡ min m (length xs)) wh
   lent-is = take-all (length xs - n) (drop n xs) (omega (arith, length-drop n xs)) ∙ rest-is
 
   module _ (zs : List A) where
-    back-is : home n xs zs ≡ take n xs ++ zs
-    back-is = rw (drop-of-length-le (drop n xs) {i = length xs - n} (omega (arith, length-drop n xs)), append-nil zs)
-
     pub home-is : home n xs zs ≡ take m xs ++ zs
-    home-is = rw (back-is, front-is)
+    home-is = rw (home-again n xs zs, front-is)
 
     -- then the front is as it was, and the rest is zs
     pub home-front : take n (home n xs zs) ≡ take m xs
-    home-front = rw (back-is, take-at (take n xs) zs n front-length, front-is)
+    home-front = rw (home-again n xs zs, take-at (take n xs) zs n front-length, front-is)
 
     pub home-rest : drop n (home n xs zs) ≡ zs
-    home-rest = rw (back-is, drop-at (take n xs) zs n front-length)
+    home-rest = rw (home-again n xs zs, drop-at (take n xs) zs n front-length)
 
   -- the front is back as ys; then the rest was lent, and is back as zs
   module _ (ys : List A) (q : length ys ≡ length (take n xs)) where

@@ -11,16 +11,15 @@ use lib.Seq.{getD-take, getD-drop}
 use lib.Ieee.{Float, nan}
 use borrow.Author.Tests.{ltb-true, leb-true, lt-ltb, le-leb, not-true}
 use Rattle.float.specs.Finite.{finiteOf}
-use Rattle.tuning.proofs.Tunings.{lines-length}
 use Rattle.order.specs.Stretch.{part}
 use Rattle.stage.specs.declared.kind.Stage.{Stage}
-use Rattle.stage.specs.declared.kind.Stage.the-variants.{VolumeControl, PanningControl, Distortion, Filter, EqFilter, Reverb, Delay}
 use Rattle.stage.specs.First.{firstOf, some}
 use Rattle.stage.specs.Kind.{stageAt}
 use Rattle.stage.specs.Layout.{placePositions}
 use Rattle.stage.specs.Lines.{linesOf, offLine, lostFrom, lostOf}
 use Rattle.stage.specs.Range.{inRangeOf}
 use Rattle.stage.proofs.Firsts.{first-is, first-clear, some-hit, some-less, some-so, none-clear}
+use Rattle.stage.proofs.FewLines.{few-lines}
 use Rattle.refuse.specs.Shape.{lastOf, ownsOf, outgrows, depthOf, faultyOf}
 use Rattle.refuse.specs.Refusals.{outOfRange, lostAt, aheadAt, badSample}
 use Rattle.table.specs.Table.{First, Faulty, OutOfRange, Lost, Ahead, BadSample}
@@ -96,22 +95,12 @@ module _ (l : List Stage) where
 
 -- ---- 6: a place has 24 positions, and no stage has more lines
 module _ (rate : ℕ) where
-  lines-few : (s : Stage) → length (linesOf rate s) ≤ 24
-  unfolding linesOf
-  lines-few (VolumeControl volume) = omega arith
-  lines-few (PanningControl panning) = omega arith
-  lines-few (Distortion kind drive mix) = omega arith
-  lines-few (Filter mode g resonance mix) = omega arith
-  lines-few (EqFilter kind g gain q) = omega arith
-  lines-few (Reverb feedback damping width mix) = omega (arith, lines-length rate)
-  lines-few (Delay frames feedback mix owned) = omega arith
-
   module _ (l : List Stage) (positions : List ℕ) (i : ℕ) where
     abbrev lines : List ℕ
     lines = linesOf rate (stageAt l i)
 
     position-at : (j : ℕ) → j < length lines → getD (part (placePositions * i) placePositions positions) j 0 ≡ getD positions (placePositions * i + j) 0
-    position-at j h = let few : j < 24 = omega (arith, lines-few (stageAt l i)) in rw (getD-take, getD-drop)
+    position-at j h = let few : j < 24 = omega (arith, few-lines rate (stageAt l i)) in rw (getD-take, getD-drop)
 
     abbrev off : ℕ → Bool
     off = offLine lines (part (placePositions * i) placePositions positions)

@@ -4,7 +4,7 @@ use mathlib.Core.Bool.{Bool, not, _&&_, _||_}
 use mathlib.Core.List.{List, [], _∷_}
 use lib.Dec.{ltb, eqb}
 use lib.ListN.{length}
-use Rattle.rows.specs.Rows.{row, firstRow}
+use Rattle.rows.specs.Rows.{Row, row, firstRow}
 use Rattle.wav_header.specs.declared.Header.{Header}
 use Rattle.wav_header.specs.declared.Header.the-variants.{Read, Names, Format, Rate, Size, Short}
 use Rattle.wav_bytes.specs.Bytes.{twoAt, fourAt}
@@ -69,16 +69,16 @@ unfoldable pub rateRight : ℕ → ℕ → Bool
 rateRight most rate = not (ltb rate 8000 || ltb 192000 rate || ltb most rate)
 
 -- ---- the table
-unfoldable pub headerOf : List ℕ → ℕ → Header
-unfolding firstRow
-headerOf bytes most =
-    let rate = fourAt bytes (plain .rate) in
-    let size = fourAt bytes (plain .size) in
-    firstRow
-    (row (ltb (length bytes) (plain .length)) Short
+abbrev pub headerRows : List ℕ → ℕ → List (Row Header)
+headerRows bytes most =
+    row (ltb (length bytes) (plain .length)) Short
     ∷ row (not (namesRight bytes)) Names
     ∷ row (not (formatRight bytes)) Format
-    ∷ row (not (rateRight most rate)) Rate
-    ∷ row (not (eqb (size % 4) 0)) Size
-    ∷ [])
-    (Read rate size)
+    ∷ row (not (rateRight most (fourAt bytes (plain .rate)))) Rate
+    ∷ row (not (eqb (fourAt bytes (plain .size) % 4) 0)) Size
+    ∷ []
+
+-- what is read where no row applies
+unfoldable pub headerOf : List ℕ → ℕ → Header
+unfolding firstRow
+headerOf bytes most = firstRow (headerRows bytes most) (Read (fourAt bytes (plain .rate)) (fourAt bytes (plain .size)))

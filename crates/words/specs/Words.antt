@@ -1,12 +1,13 @@
 -- How words are read: a stage is five words, its kind and then its numbers. Definitions only.
 use mathlib.Core.Bool.{Bool, false, not, _&&_, _||_, cond}
-use mathlib.Core.List.{List, [], _∷_}
-use Prim.Native.Nat.{ℕ, zero, suc, _+_, _*_, _-_, _/_, _^_}
+use mathlib.Core.List.{List}
+use Prim.Native.Nat.{ℕ, _+_, _*_, _-_, _/_, _^_}
 use lib.Dec.{ltb, leb, eqb}
 use lib.IntN.{ℤ, pos, negsuc}
 use lib.Ieee.{Float, binary32, binary64, ofBits}
 use lib.ListN.{length, getD}
 use Rattle.codes.specs.Codes.{clipAt, modeAt, bandAt}
+use Rattle.stage.specs.Listed.{listOf}
 use Rattle.stage.specs.declared.kind.Stage.{Stage}
 use Rattle.stage.specs.declared.kind.Stage.the-variants.{VolumeControl, PanningControl, Distortion, Filter, EqFilter, Reverb, Delay}
 use Rattle.words.specs.declared.Five.{Five}
@@ -87,12 +88,6 @@ countOf words = length words / 5
 abbrev pub unknownAt : List ℕ → ℕ → Bool
 unknownAt words i = not (isStage (fiveAt words i))
 
--- n stages from the one at i on
-unfoldable pub stagesFrom : List ℕ → ℕ → ℕ → List Stage
-stagesFrom words i zero = []
-stagesFrom words i (suc n) = stageOf (fiveAt words i) ∷ stagesFrom words (suc i) n
-
 -- the first 16
 unfoldable pub stagesOf : List ℕ → List Stage
-unfolding stagesFrom
-stagesOf words = stagesFrom words 0 16
+stagesOf words = listOf (λ i. stageOf (fiveAt words i)) 16

@@ -5,8 +5,8 @@ use native.Mathlib.Omega.{arith}
 use denote.Ref.{now}
 use lib.ListN.{length, length-set}
 use Rattle.stage.specs.Kind.{stageAt}
-use Rattle.words.specs.Words.{fiveAt, stageOf}
-use Rattle.words.proofs.Stages.{stages-more, stages-filled}
+use Rattle.stage.proofs.Listed.{listed-all, listed-more}
+use Rattle.words.specs.Words.{fiveAt, stageOf, stagesOf}
 use borrow.Author.Needs.{needs}
 use Rattle.words.proofs.stages_of.Statement.{statement}
 use Rattle.words.proofs.stages_of.Tie as tie
@@ -40,10 +40,13 @@ loop-less c = search needs
 
 loop-again : tie.Need-loop-again Inv-loop μ-loop
 loop-again c =
-    (omega arith, simp length-set (c .before .before .before .loop .inv .1), stages-more (now (c .before .before .before .before .before .args .words)) (c .before .before .before .loop .stages) (c .before .before .before .loop .inv .1) (c .before .before .before .loop .i) _ (omega arith) (c .before .before .before .loop .inv .2) (c .stage-of .ensures ∙ ap stageOf (c .before .five-at .ensures)))
+    let l = c .before .before .before .loop in
+    let words = now (c .before .before .before .before .before .args .words) in
+    (omega arith, simp length-set (l .inv .1), listed-more (λ i. stageOf (fiveAt words i)) _ (l .stages) (l .i) _ (omega (arith, l .inv .1)) (l .inv .2) (c .stage-of .ensures ∙ ap stageOf (c .before .five-at .ensures)))
 
 returns : tie.Need-returns Inv-loop μ-loop
-returns c = stages-filled (now (c .before .before .before .args .words)) (c .before .loop .stages) (c .before .loop .inv .1) (λ k h. c .before .loop .inv .2 k (omega arith))
+unfolding stagesOf
+returns c = listed-all (λ i. stageOf (fiveAt (now (c .before .before .before .args .words)) i)) _ (c .before .loop .stages) 16 (c .before .loop .inv .1) (λ k h. c .before .loop .inv .2 k (omega arith))
 
 pub stages-of-spec : {M : Type 1} → statement M
 stages-of-spec =
