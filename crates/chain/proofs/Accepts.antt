@@ -8,14 +8,15 @@ use lib.Ieee.{Float}
 use lib.ListN.{length, getD, set}
 use Rattle.line.specs.Held.{Held}
 use Rattle.line.proofs.Keeps.{Same}
-use Rattle.order.specs.Order.{Accepted}
+use Rattle.order.specs.Order.{Allowed}
 use Rattle.order.specs.Chain.{State, Chain, OkFrom, Ok, step, put, out}
 use Rattle.order.proofs.Falls.{falls-from-next}
 use Rattle.order.specs.Claims.{Stepped}
 use Rattle.order.proofs.OneStep.{one-step, made}
 use Rattle.stage.specs.declared.kind.Stage.{Stage}
 use Rattle.tops.specs.Tops.{topAt, topsOf}
-use Rattle.table.specs.Table.{tick, Clear}
+use Rattle.table.specs.Table.{tick}
+use Rattle.table.proofs.Clear.{Clear}
 use Rattle.tops.proofs.TopStages.{tops-le-16, top-le, top-next}
 use Rattle.chain.specs.Chain.{Room, chainOf, framesOf, Ready, Orderly, stepped, ordered}
 use Rattle.chain.specs.Demands.{Arrays}
@@ -33,13 +34,13 @@ module _ {X H : Type 0} (C : Chain X H) (F : ℕ) where
   unfolding step put
   ticked k s = ap (set (s .progress) k) (add-one (getD (s .progress) k 0))
 
-  pub runs→orderly : (order : List ℕ) (s : State X H) → Accepted tick (OkFrom (C .n) F) (s .progress) order → Accepted (step C) (Ok C F) s order
+  pub runs→orderly : (order : List ℕ) (s : State X H) → Allowed tick (OkFrom (C .n) F) (s .progress) order → Allowed (step C) (Ok C F) s order
   runs→orderly [] s a = tt
-  runs→orderly (k ∷ ks) s a = (a .0, runs→orderly ks (step C k s) (subst (λ (p : List ℕ). Accepted tick (OkFrom (C .n) F) p ks) (ticked k s) (a .1)))
+  runs→orderly (k ∷ ks) s a = (a .0, runs→orderly ks (step C k s) (subst (λ (p : List ℕ). Allowed tick (OkFrom (C .n) F) p ks) (ticked k s) (a .1)))
 
-  pub orderly→runs : (order : List ℕ) (s : State X H) → Accepted (step C) (Ok C F) s order → Accepted tick (OkFrom (C .n) F) (s .progress) order
+  pub orderly→runs : (order : List ℕ) (s : State X H) → Allowed (step C) (Ok C F) s order → Allowed tick (OkFrom (C .n) F) (s .progress) order
   orderly→runs [] s a = tt
-  orderly→runs (k ∷ ks) s a = (a .0, subst (λ (p : List ℕ). Accepted tick (OkFrom (C .n) F) p ks) (sym (ticked k s)) (orderly→runs ks (step C k s) (a .1)))
+  orderly→runs (k ∷ ks) s a = (a .0, subst (λ (p : List ℕ). Allowed tick (OkFrom (C .n) F) p ks) (sym (ticked k s)) (orderly→runs ks (step C k s) (a .1)))
 
 module _ (rate : ℕ) (l : List Stage) (c : ℕ) where
   pub ready : (s : State Float Held) (order : List ℕ) → Arrays s → ClearOn rate l c s order → Ready rate l c s
@@ -89,7 +90,7 @@ module _ (rate : ℕ) (l : List Stage) (c : ℕ) where
       within = λ j h. rw (w .samples) (w .inv .within j h);
       falls = λ j h g. w .inv .falls (j - 1) j (omega arith) h;
       finite = still-finite rate l c s k (framesOf (s .samples)) v (z .runs .0) (z .finite);
-      runs = rw (w .samples) (subst (λ (p : List ℕ). Accepted tick (OkFrom (topsOf l c) (framesOf (s .samples))) p order) (ticked (chainOf rate l c) (framesOf (s .samples)) k s) (z .runs .1));
+      runs = rw (w .samples) (subst (λ (p : List ℕ). Allowed tick (OkFrom (topsOf l c) (framesOf (s .samples))) p order) (ticked (chainOf rate l c) (framesOf (s .samples)) k s) (z .runs .1));
     }
 
   -- after any part of it, the rest is

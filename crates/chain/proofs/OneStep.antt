@@ -17,7 +17,8 @@ use Rattle.stage.proofs.Starts.{starts-at, start-le}
 use Rattle.step.specs.Step.{processAt}
 use Rattle.tops.specs.Tops.{topAt, topsRecord}
 use Rattle.tops.proofs.TopStages.{places-at, top-past, top-le, tops-le-16}
-use Rattle.chain.specs.Chain.{stretch, replaced, frameOf, state, Ready, May, stepped}
+use Rattle.line.specs.Frames.{frameAt}
+use Rattle.chain.specs.Chain.{stretch, replaced, state, Ready, May, stepped}
 
 -- ---- where top stage k lies: at the places from i up to e, its lines from a up to b
 
@@ -117,7 +118,8 @@ pair-in zero u v (x ∷ (y ∷ xs)) h = refl
 pair-in (suc f) u v [] h = absurd (omega arith)
 pair-in {A} (suc f) u v (x ∷ xs) h = ap {B = List A} (λ r. x ∷ r) (pair-in f u v xs (omega arith))
 
-frame-out : (f : ℕ) (xs : List Float) → frameOf (part f 2 xs) ≡ record { left = getD xs f nan; right = getD xs (f + 1) nan }
+frame-out : (f : ℕ) (xs : List Float) → frameAt 0 (part f 2 xs) ≡ record { left = getD xs f nan; right = getD xs (f + 1) nan }
+unfolding frameAt
 frame-out f xs = λ t. record { left = x t; right = y t }
   where
     x : getD (part f 2 xs) 0 nan ≡ getD xs f nan
@@ -134,7 +136,7 @@ module _ (rate : ℕ) (l : List Stage) (c k : ℕ) (xs st fl : List Float) (po p
 
   -- what top stage k makes of its next frame and of what it holds
   abbrev made : Ran
-  made = processAt rate l (startsOf rate l) (topAt l c k) (topAt l c (suc k)) (ran (frameOf (part (d * 2) 2 xs)) (stretch rate l (topAt l c k) (topAt l c (suc k)) (holds st po fl)))
+  made = processAt rate l (startsOf rate l) (topAt l c k) (topAt l c (suc k)) (ran (frameAt 0 (part (d * 2) 2 xs)) (stretch rate l (topAt l c k) (topAt l c (suc k)) (holds st po fl)))
 
   -- frame d, and what the code lends, made into y and m
   module _ (starts : List ℕ) (i e a b f : ℕ) (y : Frame) (m : Held) where

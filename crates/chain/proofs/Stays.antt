@@ -25,7 +25,8 @@ use Rattle.tops.specs.Tops.{topAt, topsOf}
 use Rattle.refuse.specs.Refusals.{unrunFrom}
 use Rattle.refuse.proofs.Unrun.{unrun-some}
 use Rattle.tops.proofs.TopStages.{top-le, top-next}
-use Rattle.chain.specs.Chain.{stretch, replaced, Room, frameOf, chainOf, stepped}
+use Rattle.line.specs.Frames.{frameAt}
+use Rattle.chain.specs.Chain.{stretch, replaced, Room, chainOf, stepped}
 use Rattle.chain.proofs.ChainLocal.{Sized, chain-local}
 
 -- ---- samples past the frame that a step runs are as they were
@@ -83,5 +84,5 @@ module _ (rate : ℕ) (l : List Stage) (c : ℕ) (s : State Float Held) (k F : �
       let own : length (part (24 * t) (24 * e - 24 * t) xs) ≡ 24 * (e - t) = length-part (24 * t) (24 * e - 24 * t) xs (omega (arith, v .held .positions)) ∙ n in
       let all : Good rate l 0 c xs = λ a b za ac bn. rw sub-zero (f a b ac bn) in
       let mine : Good rate l t e (part (24 * t) (24 * e - 24 * t) xs) = subst (λ (q : ℕ). Good rate l t e (part (24 * t) q xs)) (sym n) (good-part rate l c t e xs ec all) in
-      let after = good-splice rate l c t e (out C k s .held .positions) xs te ec (v .held .positions) (m .held .positions ∙ n) (place-stays rate l (startsOf rate l) t e (ran (frameOf (part (at s k * 2) 2 (s .samples))) (stretch rate l t e (s .held))) (le-of-eq (sym own)) mine) all in
+      let after = good-splice rate l c t e (out C k s .held .positions) xs te ec (v .held .positions) (m .held .positions ∙ n) (place-stays rate l (startsOf rate l) t e (ran (frameAt 0 (part (at s k * 2) 2 (s .samples))) (stretch rate l t e (s .held))) (le-of-eq (sym own)) mine) all in
       subst (λ (ps : List ℕ). getD ps (24 * i + j) 0 < getD (linesOf rate (stageAt l i)) j 0) (sym (ap (λ (h : Held). h .positions) (w .held))) (rw sub-zero at (after i j (omega arith) ic jl))

@@ -9,7 +9,7 @@ use lib.Ieee.{Float}
 use lib.ListN.{length, getD, drop, replicate, drop-of-length-le}
 use lib.Seq.{drop-cons}
 use Rattle.line.specs.Held.{Held}
-use Rattle.order.specs.Order.{count, Accepted}
+use Rattle.order.specs.Order.{count, Allowed}
 use Rattle.order.specs.Chain.{State, at, step, Ok, Inv}
 use Rattle.order.specs.Claims.{Stepped, Kept}
 use Rattle.order.specs.Finish.{finishing-from, finishing}
@@ -25,7 +25,7 @@ use Rattle.chain.proofs.ChainLocal.{Sized, chain-local}
 -- of an order from s₀ on, xs is left at s
 pub record Left (rate : ℕ) (l : List Stage) (c : ℕ) (s₀ : State Float Held) (order : List ℕ) (s : State Float Held) (xs : List ℕ) : Type 0 where
   pub ready : Inv (chainOf rate l c) (Room rate l c) (framesOf (s₀ .samples)) s
-  pub orderly : Accepted (step (chainOf rate l c)) (Ok (chainOf rate l c) (framesOf (s₀ .samples))) s xs
+  pub orderly : Allowed (step (chainOf rate l c)) (Ok (chainOf rate l c) (framesOf (s₀ .samples))) s xs
   pub same : ordered rate l c s xs ≡ ordered rate l c s₀ order
   pub long : length (s .samples) ≡ length (s₀ .samples)
 

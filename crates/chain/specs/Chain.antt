@@ -1,12 +1,12 @@
 -- The top stages as a chain whose steps an order can name. Definitions only.
 use mathlib.Core.List.{List, [], _∷_}
 use Prim.Native.Nat.{ℕ, suc, _*_, _-_, _/_, _≤_}
-use lib.ListN.{length, getD}
-use lib.Ieee.{Float, nan}
-use Rattle.frame.specs.declared.Frame.{Frame}
+use lib.ListN.{length}
+use lib.Ieee.{Float}
 use Rattle.line.specs.Held.{Held, holds, Ran, ran}
+use Rattle.line.specs.Frames.{frameAt}
 use Rattle.order.specs.Stretch.{part, splice}
-use Rattle.order.specs.Order.{run, Accepted}
+use Rattle.order.specs.Order.{run, Allowed}
 use Rattle.order.specs.Chain.{Out, State, Chain, step, Ok, Inv}
 use Rattle.stage.specs.declared.kind.Stage.{Stage}
 use Rattle.stage.specs.Layout.{startOf, startsOf, placePositions, placeFloats}
@@ -35,9 +35,6 @@ pub record Room (rate : ℕ) (l : List Stage) (c : ℕ) (h : Held) : Type 0 wher
 
 -- ---- the chain
 
-abbrev pub frameOf : List Float → Frame
-frameOf x = record { left = getD x 0 nan; right = getD x 1 nan }
-
 abbrev pub outOf : Ran → Out Float Held
 outOf r = record { frame = r .frame .left ∷ (r .frame .right ∷ []); held = r .held }
 
@@ -47,7 +44,7 @@ chainOf rate l c = record {
   n = topsOf l c;
   own = λ k h. stretch rate l (topAt l c k) (topAt l c (suc k)) h;
   put = λ k a h. replaced rate l (topAt l c k) a h;
-  make = λ k x a. outOf (processAt rate l (startsOf rate l) (topAt l c k) (topAt l c (suc k)) (ran (frameOf x) a));
+  make = λ k x a. outOf (processAt rate l (startsOf rate l) (topAt l c k) (topAt l c (suc k)) (ran (frameAt 0 x) a));
 }
 
 abbrev pub state : List Float → List Float → List ℕ → List Float → List ℕ → State Float Held
@@ -67,7 +64,7 @@ abbrev pub May : ℕ → List Stage → ℕ → State Float Held → ℕ → Typ
 May rate l c s k = Ok (chainOf rate l c) (framesOf (s .samples)) s k
 
 abbrev pub Orderly : ℕ → List Stage → ℕ → State Float Held → List ℕ → Type 0
-Orderly rate l c s order = Accepted (step (chainOf rate l c)) (Ok (chainOf rate l c) (framesOf (s .samples))) s order
+Orderly rate l c s order = Allowed (step (chainOf rate l c)) (Ok (chainOf rate l c) (framesOf (s .samples))) s order
 
 -- top stage k run on its next frame; and an order, entry by entry
 abbrev pub stepped : ℕ → List Stage → ℕ → ℕ → State Float Held → State Float Held

@@ -1,4 +1,4 @@
--- Demands 2 and 3 of the user, sentence by sentence, about what `run` answers and leaves. Definitions only; the crate `demands` closes each by name.
+-- Demands 2 and 3 of the user, sentence by sentence, about what `run` and `render` answer and leave. Definitions only; the crate `demands` closes each by name.
 use mathlib.Core.Path.{_≡_}
 use mathlib.Core.Logic.{_≢_}
 use mathlib.Core.Bool.{true}
@@ -10,7 +10,7 @@ use Rattle.line.specs.Held.{Held}
 use Rattle.order.specs.Stretch.{part}
 use Rattle.order.specs.Order.{count}
 use Rattle.order.specs.Chain.{State, at, out}
-use Rattle.order.specs.Render.{frames, from, render}
+use Rattle.order.specs.Render.{frames, from, frameByFrame}
 use Rattle.order.specs.Finish.{finishing}
 use Rattle.order.specs.Claims.{begin, Cut}
 use Rattle.stage.specs.declared.kind.Stage.{Stage}
@@ -60,15 +60,15 @@ module _ (rate : ℕ) (l : List Stage) (c : ℕ) where
   -- ---- Demand 3: "a step runs one stage on its next frame, never ahead of the stage before it"
 
   -- the places of top stage k and of the stages that it owns: from its own up to the next top stage's
-  abbrev pub processAt : ℕ → ℕ
-  processAt k = topAt l c k
+  abbrev pub startPlace : ℕ → ℕ
+  startPlace k = topAt l c k
 
-  abbrev pub endOf : ℕ → ℕ
-  endOf k = topAt l c (suc k)
+  abbrev pub endPlace : ℕ → ℕ
+  endPlace k = topAt l c (suc k)
 
   -- what they hold: their lines and memories
   abbrev pub heldBy : ℕ → State Float Held → Held
-  heldBy k s = stretch rate l (processAt k) (endOf k) (s .held)
+  heldBy k s = stretch rate l (startPlace k) (endPlace k) (s .held)
 
   abbrev pub nextFrame : ℕ → State Float Held → List Float
   nextFrame k s = part (at s k * 2) 2 (s .samples)
@@ -79,9 +79,9 @@ module _ (rate : ℕ) (l : List Stage) (c : ℕ) where
     pub samples : Outside (at s k * 2) (suc (at s k) * 2) (s .samples) (z .samples)
     -- so are the lines and memories of stage k and of the stages that it owns; all others, and "floats past the last line", do not change
     pub held : heldBy k z ≡ out (chainOf rate l c) k s .held
-    pub store : Outside (startOf rate l (processAt k)) (startOf rate l (endOf k)) (s .held .store) (z .held .store)
-    pub positions : Outside (placePositions * processAt k) (placePositions * endOf k) (s .held .positions) (z .held .positions)
-    pub floats : Outside (placeFloats * processAt k) (placeFloats * endOf k) (s .held .floats) (z .held .floats)
+    pub store : Outside (startOf rate l (startPlace k)) (startOf rate l (endPlace k)) (s .held .store) (z .held .store)
+    pub positions : Outside (placePositions * startPlace k) (placePositions * endPlace k) (s .held .positions) (z .held .positions)
+    pub floats : Outside (placeFloats * startPlace k) (placeFloats * endPlace k) (s .held .floats) (z .held .floats)
     -- its progress is one more, and every other as it was
     pub moved : at z k ≡ suc (at s k)
     pub others : (j : ℕ) → j ≢ k → at z j ≡ at s j
@@ -113,11 +113,11 @@ abbrev pub AnyOrder : Type 0
 AnyOrder = (rate : ℕ) (l : List Stage) (c : ℕ) (s : State Float Held) (xs ys : List ℕ) → Arrays s → Taken rate l c s xs → Taken rate l c s ys
     → ((k : ℕ) → k < topsOf l c → count k xs ≡ count k ys) → leftOf rate l c s xs ≡ leftOf rate l c s ys
 
--- "an order that brings every stage from nothing to the last frame leaves what demand 2's rendering, whole frame after whole frame, leaves": that is an accepted order too, and the samples, lines and memories are those of `render`, which takes one frame through all stages and then the next
+-- "an order that brings every stage from nothing to the last frame leaves what demand 2's rendering, whole frame after whole frame, leaves": that is an accepted order too, and the samples, lines and memories are those of `frameByFrame`, which takes one frame through all stages and then the next
 pub record FrameAfterFrame (rate : ℕ) (l : List Stage) (c : ℕ) (s : State Float Held) (order : List ℕ) : Type 0 where
   pub taken : Taken rate l c s (frames (topsOf l c) (framesOf (s .samples)))
   pub same : leftOf rate l c s order ≡ leftOf rate l c s (frames (topsOf l c) (framesOf (s .samples)))
-  pub renders : from 0 (leftOf rate l c s order) ≡ render (chainOf rate l c) (framesOf (s .samples)) (from 0 s)
+  pub renders : from 0 (leftOf rate l c s order) ≡ frameByFrame (chainOf rate l c) (framesOf (s .samples)) (from 0 s)
 
 abbrev pub WholeFrames : Type 0
 WholeFrames = (rate : ℕ) (l : List Stage) (c : ℕ) (s : State Float Held) (order : List ℕ) → Arrays s → Taken rate l c s [] → Finishing rate l c s order → Taken rate l c s order × FrameAfterFrame rate l c s order

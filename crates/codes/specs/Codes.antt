@@ -1,4 +1,4 @@
--- A case of an enum by its place in document 01's list of cases; past the end it is the last case. Definitions only.
+-- A case of an enum by its place among the Rust's cases, from 0 on; past the end it is the last case. Definitions only.
 use mathlib.Core.Bool.{cond}
 use Prim.Native.Nat.{ℕ}
 use lib.Dec.{eqb}

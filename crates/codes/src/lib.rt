@@ -1,4 +1,4 @@
-// A case of kira's enums by a number, its place in document 01's list of cases, for callers whose
+// A case of kira's enums by a number, its place among the Rust's cases from 0 on, for callers whose
 // language does not know the enum. A number past the end is the last case.
 ghost use mathlib.Core.Path.{_≡_};
 ghost use Rattle.codes.specs.Codes.{clipAt, modeAt, bandAt};

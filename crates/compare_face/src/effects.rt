@@ -53,7 +53,7 @@ pub struct Six {
     pub m2: f64,
 }
 
-fn frame_in(pair: Pair) -> Frame
+fn pair_in(pair: Pair) -> Frame
     ensures { λ r. ⌜ r ≡ pairIn pair ⌝ }
 {
     Frame {
@@ -86,7 +86,7 @@ fn integrators_in(memory: Memory) -> Integrators
     }
 }
 
-fn answer_out(filtered: Filtered) -> Answer
+fn processed_out(filtered: Filtered) -> Answer
     ensures { λ r. ⌜ r ≡ processedOut filtered ⌝ }
 {
     Answer {
@@ -111,21 +111,21 @@ fn answer_out(filtered: Filtered) -> Answer
 pub extern "C" fn sedhavil_volume_control(input: Pair, volume: i32) -> Pair
     ensures { λ r. ⌜ r ≡ pairOut (volumeOf volume (pairIn input)) ⌝ }
 {
-    pair_out(effect::volume_control::process(frame_in(input), volume))
+    pair_out(effect::volume_control::process(pair_in(input), volume))
 }
 
 #[no_mangle]
 pub extern "C" fn sedhavil_panning_control(input: Pair, panning: f32) -> Pair
     ensures { λ r. ⌜ r ≡ pairOut (panningOf panning (pairIn input)) ⌝ }
 {
-    pair_out(effect::panning_control::process(frame_in(input), panning))
+    pair_out(effect::panning_control::process(pair_in(input), panning))
 }
 
 #[no_mangle]
 pub extern "C" fn sedhavil_distortion(input: Pair, kind: u32, drive: i32, mix: f32) -> Pair
     ensures { λ r. ⌜ r ≡ pairOut (distortionOf (clipAt kind) drive mix (pairIn input)) ⌝ }
 {
-    pair_out(effect::distortion::process(frame_in(input), clip_at(kind as u64), drive, mix))
+    pair_out(effect::distortion::process(pair_in(input), clip_at(kind as u64), drive, mix))
 }
 
 #[no_mangle]
@@ -139,8 +139,8 @@ pub extern "C" fn sedhavil_filter(
 ) -> Answer
     ensures { λ r. ⌜ r ≡ processedOut (filterOf (modeAt mode) g resonance mix (integratorsIn memory) (pairIn input)) ⌝ }
 {
-    answer_out(filters::filter::process(
-        frame_in(input),
+    processed_out(filters::filter::process(
+        pair_in(input),
         integrators_in(memory),
         mode_at(mode as u64),
         g,
@@ -160,8 +160,8 @@ pub extern "C" fn sedhavil_eq_filter(
 ) -> Answer
     ensures { λ r. ⌜ r ≡ processedOut (eqOf (bandAt kind) g q gain (integratorsIn memory) (pairIn input)) ⌝ }
 {
-    answer_out(filters::eq_filter::process(
-        frame_in(input),
+    processed_out(filters::eq_filter::process(
+        pair_in(input),
         integrators_in(memory),
         band_at(kind as u64),
         g,

@@ -23,12 +23,12 @@ use Rattle.refuse.specs.Refusals.{answerOf}
 use Rattle.chain.specs.Chain.{state}
 use Rattle.chain.specs.Run.{renderedOf}
 
-pub record Row : Type 0 where
+pub record Example : Type 0 where
   pub given : List ℕ
   pub said : List ℕ
 
-abbrev pub row : List ℕ → List ℕ → Row
-row given said = record { given = given; said = said }
+abbrev pub example : List ℕ → List ℕ → Example
+example given said = record { given = given; said = said }
 
 -- ---- numbers as the document writes them
 
@@ -91,41 +91,41 @@ told order =
 
 -- ---- the list
 
-abbrev pub rows : List Row
+abbrev pub rows : List Example
 rows =
     -- P1 "sqrt(0.25) = 0.5"
-    row (bits (sqrtOf binary32 (ratio 1 4)) ∷ []) (half ∷ [])
+    example (bits (sqrtOf binary32 (ratio 1 4)) ∷ []) (half ∷ [])
     -- P2 "sqrt(-0) = -0"
-    ∷ row (bits (sqrtOf binary32 (neg (number 0))) ∷ []) (0x8000_0000 ∷ [])
+    ∷ example (bits (sqrtOf binary32 (neg (number 0))) ∷ []) (0x8000_0000 ∷ [])
     -- P3 "sqrt(0.5) has bits 3F3504F3"
-    ∷ row (bits (sqrtOf binary32 (ratio 1 2)) ∷ []) (0x3f35_04f3 ∷ [])
+    ∷ example (bits (sqrtOf binary32 (ratio 1 2)) ∷ []) (0x3f35_04f3 ∷ [])
     -- P4 "f64 1 + 2^-24 narrows to 1; 1 + 2^-24 + 2^-52 narrows to 1 + 2^-23"
-    ∷ row (bits (narrowOf binary32 (literal binary64 (2 ^ 24 + 1) (2 ^ 24))) ∷ bits (narrowOf binary32 (literal binary64 (2 ^ 52 + 2 ^ 28 + 1) (2 ^ 52))) ∷ []) (one ∷ 0x3f80_0001 ∷ [])
+    ∷ example (bits (narrowOf binary32 (literal binary64 (2 ^ 24 + 1) (2 ^ 24))) ∷ bits (narrowOf binary32 (literal binary64 (2 ^ 52 + 2 ^ 28 + 1) (2 ^ 52))) ∷ []) (one ∷ 0x3f80_0001 ∷ [])
     -- P5 "0 dB gives 1, 20 dB gives 10, -60 dB gives 0"
-    ∷ row (bits (amplitudeOf (pos 0)) ∷ bits (amplitudeOf (pos 20)) ∷ bits (amplitudeOf (negsuc 59)) ∷ []) (one ∷ bits (number 10) ∷ 0 ∷ [])
+    ∷ example (bits (amplitudeOf (pos 0)) ∷ bits (amplitudeOf (pos 20)) ∷ bits (amplitudeOf (negsuc 59)) ∷ []) (one ∷ bits (number 10) ∷ 0 ∷ [])
     -- P6 "at 48,000 line 441 has 480 floats, 1617 has 1760, 1116 has 1214"
-    ∷ row (lengthOf 441 48000 ∷ lengthOf 1617 48000 ∷ lengthOf 1116 48000 ∷ []) (480 ∷ 1760 ∷ 1214 ∷ [])
+    ∷ example (lengthOf 441 48000 ∷ lengthOf 1617 48000 ∷ lengthOf 1116 48000 ∷ []) (480 ∷ 1760 ∷ 1214 ∷ [])
     -- P7 "hard clip of 3 at drive 0, mix 1: 1. Soft clip of 1: 0.5"
-    ∷ row (frameBits (distortionOf HardClip (pos 0) (number 1) (both 3))) (one ∷ one ∷ [])
-    ∷ row (frameBits (distortionOf SoftClip (pos 0) (number 1) (both 1))) (half ∷ half ∷ [])
+    ∷ example (frameBits (distortionOf HardClip (pos 0) (number 1) (both 3))) (one ∷ one ∷ [])
+    ∷ example (frameBits (distortionOf SoftClip (pos 0) (number 1) (both 1))) (half ∷ half ∷ [])
     -- P8 "panning -1 on (1, 1): left bits 3FB504F3, right 0"
-    ∷ row (frameBits (pannedOf (both 1) (neg (number 1)))) (0x3fb5_04f3 ∷ 0 ∷ [])
+    ∷ example (frameBits (pannedOf (both 1) (neg (number 1)))) (0x3fb5_04f3 ∷ 0 ∷ [])
     -- P9 "panning 2^-30 on (1, 1): both 1 - 2^-24"
-    ∷ row (frameBits (pannedOf (both 1) (ratio 1 (2 ^ 30)))) (0x3f7f_ffff ∷ 0x3f7f_ffff ∷ [])
+    ∷ example (frameBits (pannedOf (both 1) (ratio 1 (2 ^ 30)))) (0x3f7f_ffff ∷ 0x3f7f_ffff ∷ [])
     -- P10 "all-pass of length 1, inputs 1, 0, 0: -1, 1, 0.5"
-    ∷ row (passed (number 1) freshPass ∷ passed (number 0) (passThen (number 1) freshPass) ∷ passed (number 0) (passThen (number 0) (passThen (number 1) freshPass)) ∷ []) (0xbf80_0000 ∷ one ∷ half ∷ [])
+    ∷ example (passed (number 1) freshPass ∷ passed (number 0) (passThen (number 1) freshPass) ∷ passed (number 0) (passThen (number 0) (passThen (number 1) freshPass)) ∷ []) (0xbf80_0000 ∷ one ∷ half ∷ [])
     -- P11 "comb of length 1, feedback 0.5, damping 0, inputs 1, 0, 0: 0, 1, 0.5"
-    ∷ row (combed freshComb ∷ combed (combThen (number 1) freshComb) ∷ combed (combThen (number 0) (combThen (number 1) freshComb)) ∷ []) (0 ∷ one ∷ half ∷ [])
+    ∷ example (combed freshComb ∷ combed (combThen (number 1) freshComb) ∷ combed (combThen (number 0) (combThen (number 1) freshComb)) ∷ []) (0 ∷ one ∷ half ∷ [])
     -- P12 "delay of 1 frame, feedback 0 dB, mix 1, frames 1, 0, 0: 0, 1, 1"
-    ∷ row (rendered (Delay 1 (pos 0) (number 1) 0 ∷ []) 2 (number 1 ∷ number 1 ∷ number 0 ∷ number 0 ∷ number 0 ∷ number 0 ∷ [])) (0 ∷ 0 ∷ one ∷ one ∷ one ∷ one ∷ [])
+    ∷ example (rendered (Delay 1 (pos 0) (number 1) 0 ∷ []) 2 (number 1 ∷ number 1 ∷ number 0 ∷ number 0 ∷ number 0 ∷ number 0 ∷ [])) (0 ∷ 0 ∷ one ∷ one ∷ one ∷ one ∷ [])
     -- P13 "two stages, one frame: order 1,0 gives refusal 11 at 0; order 0,1,0 at 2; order 0,1 is taken"
-    ∷ row (told (1 ∷ 0 ∷ [])) (11 ∷ 0 ∷ [])
-    ∷ row (told (0 ∷ 1 ∷ 0 ∷ [])) (11 ∷ 2 ∷ [])
-    ∷ row (told (0 ∷ 1 ∷ [])) (0 ∷ 0 ∷ [])
+    ∷ example (told (1 ∷ 0 ∷ [])) (11 ∷ 0 ∷ [])
+    ∷ example (told (0 ∷ 1 ∷ 0 ∷ [])) (11 ∷ 2 ∷ [])
+    ∷ example (told (0 ∷ 1 ∷ [])) (0 ∷ 0 ∷ [])
     ∷ []
 
 -- the one claim, over all rows: what is given is what is said
-abbrev pub Hold : List Row → Type 0
+abbrev pub Hold : List Example → Type 0
 Hold [] = Unit {0}
 Hold (r ∷ rs) = (r .given ≡ r .said) × Hold rs
 

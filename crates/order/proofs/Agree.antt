@@ -5,7 +5,7 @@ use mathlib.Core.List.{List}
 use Prim.Native.Nat.{ℕ, _<_}
 use native.Mathlib.Omega.{arith}
 use native.Mathlib.Decide.{decLt}
-use Rattle.order.specs.Order.{count, run, Accepted}
+use Rattle.order.specs.Order.{count, run, Allowed}
 use Rattle.order.specs.Chain.{State, Chain, step, Ok, Local, Inv}
 use Rattle.order.specs.Claims.{Finishes}
 use Rattle.order.proofs.Diamond.{same-counts}
@@ -13,7 +13,7 @@ use Rattle.order.proofs.Swaps.{diamond}
 use Rattle.order.proofs.Keeps.{count-beyond, run-keeps}
 
 module _ {X H : Type 0} (C : Chain X H) (Fits : H → Type 0) (Sized : ℕ → H → Type 0) (L : Local C Fits Sized) (F : ℕ) where
-  pub orders-agree : (xs ys : List ℕ) (s : State X H) → Inv C Fits F s → Accepted (step C) (Ok C F) s xs → Accepted (step C) (Ok C F) s ys
+  pub orders-agree : (xs ys : List ℕ) (s : State X H) → Inv C Fits F s → Allowed (step C) (Ok C F) s xs → Allowed (step C) (Ok C F) s ys
       → ((i : ℕ) → i < C .n → count i xs ≡ count i ys) → run (step C) s xs ≡ run (step C) s ys
   orders-agree xs ys s v a b c = same-counts (step C) (Ok C F) (Inv C Fits F) (diamond C Fits Sized L F) xs ys s v a b (λ i. go i (decLt i (C .n)))
     where

@@ -1,4 +1,4 @@
--- A block cut at any frame leaves what its two parts leave, the second begun with what the first left: by `render`, which knows no
+-- A block cut at any frame leaves what its two parts leave, the second begun with what the first left: by `frameByFrame`, which knows no
 -- order.
 use mathlib.Core.Path.{_≡_, sym, ap, ap₂, _∙_}
 use mathlib.Core.List.{List, [], _∷_, _++_, append-assoc}
@@ -8,7 +8,7 @@ use native.Mathlib.Nat.{suc-add, zero-add}
 use lib.ListN.{length}
 use Rattle.order.specs.Order.{run}
 use Rattle.order.specs.Chain.{Out, State, Chain, step, Local, Inv}
-use Rattle.order.specs.Render.{from, first, rest, followedBy, pass, render}
+use Rattle.order.specs.Render.{from, first, rest, followedBy, pass, frameByFrame}
 use Rattle.order.specs.Claims.{Whole, Cut}
 use Rattle.order.proofs.FrameByFrame.{order-renders}
 
@@ -21,17 +21,17 @@ followed-by-assoc : {X H : Type 0} (q r u : Out X H) → followedBy q (followedB
 unfolding followedBy
 followed-by-assoc q r u = λ i. record { frame = sym (append-assoc (q .frame) (r .frame) (u .frame)) i; held = u .held }
 
-render-append : {X H : Type 0} (C : Chain X H) (c d : ℕ) (xs ys : List X) (h : H) → length xs ≡ c * 2
-    → render C (c + d) (block (xs ++ ys) h) ≡ followedBy (render C c (block xs h)) (render C d (block ys (render C c (block xs h) .held)))
-unfolding render followedBy block first rest
-render-append C zero d [] ys h e = rw zero-add
-render-append C zero d (x ∷ xs) ys h e = absurd (omega arith)
-render-append C (suc c) d [] ys h e = absurd (omega arith)
-render-append C (suc c) d (x ∷ []) ys h e = absurd (omega arith)
-render-append C (suc c) d (x ∷ (y ∷ xs)) ys h e =
+frames-append : {X H : Type 0} (C : Chain X H) (c d : ℕ) (xs ys : List X) (h : H) → length xs ≡ c * 2
+    → frameByFrame C (c + d) (block (xs ++ ys) h) ≡ followedBy (frameByFrame C c (block xs h)) (frameByFrame C d (block ys (frameByFrame C c (block xs h) .held)))
+unfolding frameByFrame followedBy block first rest
+frames-append C zero d [] ys h e = rw zero-add
+frames-append C zero d (x ∷ xs) ys h e = absurd (omega arith)
+frames-append C (suc c) d [] ys h e = absurd (omega arith)
+frames-append C (suc c) d (x ∷ []) ys h e = absurd (omega arith)
+frames-append C (suc c) d (x ∷ (y ∷ xs)) ys h e =
     let q = pass C 0 (C .n) (block (x ∷ (y ∷ [])) h) in
-    let r = render C c (block xs (q .held)) in
-    rw suc-add (ap (followedBy q) (render-append C c d xs ys (q .held) (omega arith)) ∙ followed-by-assoc q r (render C d (block ys (r .held))))
+    let r = frameByFrame C c (block xs (q .held)) in
+    rw suc-add (ap (followedBy q) (frames-append C c d xs ys (q .held) (omega arith)) ∙ followed-by-assoc q r (frameByFrame C d (block ys (r .held))))
 
 -- ---- the cut
 
@@ -45,16 +45,16 @@ module _ {X H : Type 0} (C : Chain X H) (Fits : H → Type 0) (Sized : ℕ → H
   cut-parts c d s s₁ s₂ e a b l p q h v w v₁ w₁ v₂ w₂ = record { samples = λ i. z i .frame; held = λ i. z i .held }
     where
       r₁ : Out X H
-      r₁ = render C c (from 0 s₁)
+      r₁ = frameByFrame C c (from 0 s₁)
 
       first-is : from 0 (run (step C) s₁ a) ≡ r₁
       first-is = order-renders C Fits Sized L c a s₁ v₁ w₁
 
-      second-is : from 0 (run (step C) s₂ b) ≡ render C d (block (s₂ .samples) (r₁ .held))
-      second-is = order-renders C Fits Sized L d b s₂ v₂ w₂ ∙ ap (λ g. render C d (block (s₂ .samples) g)) (h ∙ ap (λ (u : Out X H). u .held) first-is)
+      second-is : from 0 (run (step C) s₂ b) ≡ frameByFrame C d (block (s₂ .samples) (r₁ .held))
+      second-is = order-renders C Fits Sized L d b s₂ v₂ w₂ ∙ ap (λ g. frameByFrame C d (block (s₂ .samples) g)) (h ∙ ap (λ (u : Out X H). u .held) first-is)
 
       z : from 0 (run (step C) s e) ≡ followedBy (from 0 (run (step C) s₁ a)) (from 0 (run (step C) s₂ b))
       z = order-renders C Fits Sized L (c + d) e s v w
-          ∙ ap₂ (λ x g. render C (c + d) (block x g)) p q
-          ∙ render-append C c d (s₁ .samples) (s₂ .samples) (s₁ .held) l
+          ∙ ap₂ (λ x g. frameByFrame C (c + d) (block x g)) p q
+          ∙ frames-append C c d (s₁ .samples) (s₂ .samples) (s₁ .held) l
           ∙ sym (ap₂ followedBy first-is second-is)

@@ -6,7 +6,7 @@ use mathlib.Core.List.{List, [], _∷_}
 use Prim.Native.Nat.{ℕ, _+_, _<_}
 use native.Mathlib.Omega.{arith}
 use native.Mathlib.Decide.{ℕ-discrete}
-use Rattle.order.specs.Order.{hit, count, run, Accepted}
+use Rattle.order.specs.Order.{hit, count, run, Allowed}
 use Rattle.order.proofs.Orders.{hit-same, hit-other}
 
 pub record Diamond {S : Type 0} (step : ℕ → S → S) (Ok : S → ℕ → Type 0) (Inv : S → Type 0) : Type 0 where
@@ -40,15 +40,15 @@ pull-count (there d p) i = omega (arith, pull-count p i)
 
 module _ {S : Type 0} (step : ℕ → S → S) (Ok : S → ℕ → Type 0) (Inv : S → Type 0) (D : Diamond step Ok Inv) where
   -- a step that may be taken now can be taken before all others, up to where it stands
-  front : {k : ℕ} {ys zs : List ℕ} → Pulled k ys zs → (s : S) → Inv s → Ok s k → Accepted step Ok s ys
-      → Accepted step Ok (step k s) zs × (run step s ys ≡ run step (step k s) zs)
+  front : {k : ℕ} {ys zs : List ℕ} → Pulled k ys zs → (s : S) → Inv s → Ok s k → Allowed step Ok s ys
+      → Allowed step Ok (step k s) zs × (run step s ys ≡ run step (step k s) zs)
   front here s v o a = (a .1, refl)
   front {k} (there {j = j} {zs = zs} d p) s v o a =
       let r = front p (step j s) (D .keep s j v (a .0)) (D .stay s j k v d (a .0) o) (a .1) in
       let e : step k (step j s) ≡ step j (step k s) = D .swap s j k v d (a .0) o in
       ((D .stay s k j v (λ q. d (sym q)) o (a .0), rw e at (r .0)), r .1 ∙ rw e)
 
-  pub same-counts : (xs ys : List ℕ) (s : S) → Inv s → Accepted step Ok s xs → Accepted step Ok s ys
+  pub same-counts : (xs ys : List ℕ) (s : S) → Inv s → Allowed step Ok s xs → Allowed step Ok s ys
       → ((i : ℕ) → count i xs ≡ count i ys) → run step s xs ≡ run step s ys
   unfolding count
   same-counts [] [] s v a b c = refl

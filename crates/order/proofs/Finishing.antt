@@ -7,7 +7,7 @@ use Prim.Native.Nat.{ℕ, zero, suc, _+_, _-_, _≤_, _<_}
 use native.Mathlib.Omega.{arith}
 use native.Mathlib.Decide.{ℕ-discrete}
 use lib.ListN.{getD, replicate}
-use Rattle.order.specs.Order.{run, Accepted}
+use Rattle.order.specs.Order.{run, Allowed}
 use Rattle.order.specs.Chain.{State, Chain, at, step, Ok, Local, Inv}
 use Rattle.order.specs.Finish.{frames-left, finishing-from, finishing}
 use Rattle.order.specs.Claims.{Finishes}
@@ -24,7 +24,7 @@ module _ {X H : Type 0} (C : Chain X H) (Fits : H → Type 0) (Sized : ℕ → H
   -- ---- stage k, d times
 
   record Moved (k d : ℕ) (s z : State X H) : Type 0 where
-    accepted : Accepted (step C) (Ok C F) s (replicate d k)
+    accepted : Allowed (step C) (Ok C F) s (replicate d k)
     up : Up (suc k) z
     others : (j : ℕ) → j ≢ k → at z j ≡ at s j
 

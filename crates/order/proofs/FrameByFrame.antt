@@ -1,5 +1,5 @@
 -- Whole frame after whole frame is an accepted order that brings every stage to the last frame, and what it leaves is what the
--- recursion `render` says; so both hold of every order that does.
+-- recursion `frameByFrame` says; so both hold of every order that does.
 use mathlib.Core.Path.{_≡_, refl, sym, ap, ap₂, _∙_, subst}
 use mathlib.Core.List.{List, _++_}
 use Prim.Native.Nat.{ℕ, zero, suc, _+_, _*_, _≤_}
@@ -9,7 +9,7 @@ use lib.Seq.{drop-drop}
 use Rattle.order.specs.Order.{run}
 use Rattle.order.specs.Stretch.{part}
 use Rattle.order.specs.Chain.{Out, State, Chain, step, Ok, Done, Local, Inv}
-use Rattle.order.specs.Render.{row, frames, from, first, rest, followedBy, pass, render}
+use Rattle.order.specs.Render.{eachOnce, frames, from, first, rest, followedBy, pass, frameByFrame}
 use Rattle.order.specs.Claims.{Finishes, Whole}
 use Rattle.order.proofs.Orders.{run-append, accepted-append}
 use Rattle.order.proofs.Keeps.{run-keeps}
@@ -40,22 +40,22 @@ module _ {X H : Type 0} (C : Chain X H) (Fits : H → Type 0) (Sized : ℕ → H
   -- m frames from frame t on
   record Rendered (m t : ℕ) (s : State X H) : Type 0 where
     finishes : Finishes C F s (frames (C .n) m)
-    made-is : from t (run (step C) s (frames (C .n) m)) ≡ render C m (from t s)
+    made-is : from t (run (step C) s (frames (C .n) m)) ≡ frameByFrame C m (from t s)
     before : (a n : ℕ) → a + n ≤ t * 2 → part a n (run (step C) s (frames (C .n) m) .samples) ≡ part a n (s .samples)
 
   rendered : (m t : ℕ) (s : State X H) → t + m ≡ F → Inv C Fits F s → Done C t s → Rendered m t s
-  unfolding frames render
+  unfolding frames frameByFrame
   rendered zero t s e v d = record { finishes = record { accepted = tt; done = λ k l. d k l ∙ omega arith }; made-is = refl; before = λ a n h. refl }
   rendered (suc m) t s e v d =
       let w = swept C Fits Sized L F 0 (C .n) t s (omega arith) (record { inv = v; room = omega arith; past = λ j l. absurd (omega arith); left = λ j l g. d j g }) in
-      let s₁ : State X H = run (step C) s (row 0 (C .n)) in
-      let u = rendered m (suc t) s₁ (omega arith) (run-keeps C Fits Sized L F (row 0 (C .n)) s v (w .accepted) .inv) (w .done) in
+      let s₁ : State X H = run (step C) s (eachOnce 0 (C .n)) in
+      let u = rendered m (suc t) s₁ (omega arith) (run-keeps C Fits Sized L F (eachOnce 0 (C .n)) s v (w .accepted) .inv) (w .done) in
       record {
         finishes = record {
-          accepted = accepted-append (step C) (Ok C F) (row 0 (C .n)) (frames (C .n) m) s (w .accepted) (u .finishes .accepted);
+          accepted = accepted-append (step C) (Ok C F) (eachOnce 0 (C .n)) (frames (C .n) m) s (w .accepted) (u .finishes .accepted);
           done = rw run-append (u .finishes .done);
         };
-        made-is = rw run-append (glue t s s₁ (run (step C) s₁ (frames (C .n) m)) (pass C 0 (C .n) (first (from t s))) (render C m)
+        made-is = rw run-append (glue t s s₁ (run (step C) s₁ (frames (C .n) m)) (pass C 0 (C .n) (first (from t s))) (frameByFrame C m)
             (w .made-is) (w .after) (u .before (t * 2) 2 (omega arith)) (u .made-is));
         before = λ a n l. rw run-append (u .before a n (omega arith) ∙ w .before a n l);
       }
@@ -68,5 +68,5 @@ module _ {X H : Type 0} (C : Chain X H) (Fits : H → Type 0) (Sized : ℕ → H
   pub frame-by-frame : (xs : List ℕ) (s : State X H) → Inv C Fits F s → Whole C F s xs → run (step C) s xs ≡ run (step C) s (frames (C .n) F)
   frame-by-frame xs s v w = finishes-agree C Fits Sized L F xs (frames (C .n) F) s v (w .finishes) (frames-whole s v (w .fresh) .finishes)
 
-  pub order-renders : (xs : List ℕ) (s : State X H) → Inv C Fits F s → Whole C F s xs → from 0 (run (step C) s xs) ≡ render C F (from 0 s)
+  pub order-renders : (xs : List ℕ) (s : State X H) → Inv C Fits F s → Whole C F s xs → from 0 (run (step C) s xs) ≡ frameByFrame C F (from 0 s)
   order-renders xs s v w = ap (from 0) (frame-by-frame xs s v w) ∙ rendered F 0 s (omega arith) v (w .fresh) .made-is

@@ -4,17 +4,17 @@ use Prim.Native.Nat.{ℕ, zero, suc, _+_, _-_, _*_, _≤_, _<_}
 use native.Mathlib.Omega.{arith}
 use native.Mathlib.Decide.{ℕ-discrete}
 use lib.ListN.{drop}
-use Rattle.order.specs.Order.{run, Accepted}
+use Rattle.order.specs.Order.{run, Allowed}
 use Rattle.order.specs.Stretch.{part}
 use Rattle.order.specs.Chain.{State, Chain, at, out, put, step, Ok, Done, Local, Inv}
-use Rattle.order.specs.Render.{row, from, first, back, one, pass}
+use Rattle.order.specs.Render.{eachOnce, from, first, putBack, through, pass}
 use Rattle.order.specs.Claims.{Stepped}
 use Rattle.order.proofs.OneStep.{one-step}
 
 module _ {X H : Type 0} (C : Chain X H) (Fits : H → Type 0) (Sized : ℕ → H → Type 0) (L : Local C Fits Sized) (F : ℕ) where
   -- a step, seen from the frame that it is at
-  first-step : (s : State X H) (k : ℕ) → Inv C Fits F s → Ok C F s k → first (from (at s k) (step C k s)) ≡ one C k (first (from (at s k) s))
-  unfolding first from one back step put out
+  first-step : (s : State X H) (k : ℕ) → Inv C Fits F s → Ok C F s k → first (from (at s k) (step C k s)) ≡ through C k (first (from (at s k) s))
+  unfolding first from through putBack step put out
   first-step s k v c = λ i. record { frame = one-step C Fits Sized L F s k v c .frame i; held = step C k s .held }
 
   -- ---- frame t has been through the stages before k
@@ -43,14 +43,14 @@ module _ {X H : Type 0} (C : Chain X H) (Fits : H → Type 0) (Sized : ℕ → H
   -- ---- and goes through the m others
 
   pub record Swept (k m t : ℕ) (s : State X H) : Type 0 where
-    pub accepted : Accepted (step C) (Ok C F) s (row k m)
-    pub done : Done C (suc t) (run (step C) s (row k m))
-    pub made-is : first (from t (run (step C) s (row k m))) ≡ pass C k m (first (from t s))
-    pub before : (a n : ℕ) → a + n ≤ t * 2 → part a n (run (step C) s (row k m) .samples) ≡ part a n (s .samples)
-    pub after : drop (suc t * 2) (run (step C) s (row k m) .samples) ≡ drop (suc t * 2) (s .samples)
+    pub accepted : Allowed (step C) (Ok C F) s (eachOnce k m)
+    pub done : Done C (suc t) (run (step C) s (eachOnce k m))
+    pub made-is : first (from t (run (step C) s (eachOnce k m))) ≡ pass C k m (first (from t s))
+    pub before : (a n : ℕ) → a + n ≤ t * 2 → part a n (run (step C) s (eachOnce k m) .samples) ≡ part a n (s .samples)
+    pub after : drop (suc t * 2) (run (step C) s (eachOnce k m) .samples) ≡ drop (suc t * 2) (s .samples)
 
   pub swept : (k m t : ℕ) (s : State X H) → k + m ≡ C .n → Under k t s → Swept k m t s
-  unfolding row pass
+  unfolding eachOnce pass
   swept k zero t s e u = record { accepted = tt; done = λ j l. u .past j (omega arith); made-is = refl; before = λ a n h. refl; after = refl }
   swept k (suc m) t s e u =
       let h : k < C .n = omega arith in

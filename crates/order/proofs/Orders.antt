@@ -4,7 +4,7 @@ use mathlib.Core.Logic.{_≢_}
 use mathlib.Core.List.{List, [], _∷_, _++_}
 use Prim.Native.Nat.{ℕ}
 use native.Mathlib.Decide.{ℕ-discrete}
-use Rattle.order.specs.Order.{one-if, hit, run, Accepted}
+use Rattle.order.specs.Order.{one-if, hit, run, Allowed}
 
 pub hit-same : (k : ℕ) → hit k k ≡ 1
 unfolding hit
@@ -29,14 +29,14 @@ module _ {S : Type 0} (step : ℕ → S → S) where
 
   -- an order of two parts is accepted where the first is, and the second after it
   module _ (Ok : S → ℕ → Type 0) where
-    pub accepted-append : (xs ys : List ℕ) (s : S) → Accepted step Ok s xs → Accepted step Ok (run step s xs) ys → Accepted step Ok s (xs ++ ys)
+    pub accepted-append : (xs ys : List ℕ) (s : S) → Allowed step Ok s xs → Allowed step Ok (run step s xs) ys → Allowed step Ok s (xs ++ ys)
     accepted-append [] ys s a b = b
     accepted-append (k ∷ xs) ys s a b = (a .0, accepted-append xs ys (step k s) (a .1) b)
 
-    pub accepted-prefix : (xs ys : List ℕ) (s : S) → Accepted step Ok s (xs ++ ys) → Accepted step Ok s xs
+    pub accepted-prefix : (xs ys : List ℕ) (s : S) → Allowed step Ok s (xs ++ ys) → Allowed step Ok s xs
     accepted-prefix [] ys s a = tt
     accepted-prefix (k ∷ xs) ys s a = (a .0, accepted-prefix xs ys (step k s) (a .1))
 
-    pub accepted-suffix : (xs ys : List ℕ) (s : S) → Accepted step Ok s (xs ++ ys) → Accepted step Ok (run step s xs) ys
+    pub accepted-suffix : (xs ys : List ℕ) (s : S) → Allowed step Ok s (xs ++ ys) → Allowed step Ok (run step s xs) ys
     accepted-suffix [] ys s a = a
     accepted-suffix (k ∷ xs) ys s a = accepted-suffix xs ys (step k s) (a .1)

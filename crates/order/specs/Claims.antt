@@ -5,7 +5,7 @@ use mathlib.Core.List.{List, _++_}
 use Prim.Native.Nat.{ℕ, suc, _+_, _*_, _≤_, _<_}
 use lib.ListN.{length, getD, drop}
 use Rattle.order.specs.Stretch.{part}
-use Rattle.order.specs.Order.{count, run, Accepted}
+use Rattle.order.specs.Order.{count, run, Allowed}
 use Rattle.order.specs.Chain.{State, Chain, at, out, step, Ok, Done, Inv}
 
 -- a block of samples xs, with what the stages hold, at progress p
@@ -35,7 +35,7 @@ module _ {X H : Type 0} (C : Chain X H) where
 
   -- an order that is accepted, and brings every stage to frame F
   pub record Finishes (F : ℕ) (s : State X H) (xs : List ℕ) : Type 0 where
-    pub accepted : Accepted (step C) (Ok C F) s xs
+    pub accepted : Allowed (step C) (Ok C F) s xs
     pub done : Done C F (run (step C) s xs)
 
   -- one that does so from a block that no stage has begun

@@ -17,7 +17,7 @@ unfoldable pub count : ℕ → List ℕ → ℕ
 count i [] = 0
 count i (k ∷ ks) = hit i k + count i ks
 
--- ---- an order run, and an order accepted, entry by entry
+-- ---- an order run, and an order allowed, entry by entry
 
 module _ {S : Type 0} (step : ℕ → S → S) where
   -- what the steps leave, taken one after another
@@ -26,6 +26,6 @@ module _ {S : Type 0} (step : ℕ → S → S) where
   run s (k ∷ ks) = run (step k s) ks
 
   -- each step may be taken (`Ok`) in the state that those before it leave
-  abbrev pub Accepted : (S → ℕ → Type 0) → S → List ℕ → Type 0
-  Accepted Ok s [] = Unit {0}
-  Accepted Ok s (k ∷ ks) = Ok s k × Accepted Ok (step k s) ks
+  abbrev pub Allowed : (S → ℕ → Type 0) → S → List ℕ → Type 0
+  Allowed Ok s [] = Unit {0}
+  Allowed Ok s (k ∷ ks) = Ok s k × Allowed Ok (step k s) ks

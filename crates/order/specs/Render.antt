@@ -7,14 +7,14 @@ use Rattle.order.specs.Chain.{Out, State, Chain}
 -- ---- the order
 
 -- each of m stages, from stage k on, once
-unfoldable pub row : ℕ → ℕ → List ℕ
-row k zero = []
-row k (suc m) = k ∷ row (suc k) m
+unfoldable pub eachOnce : ℕ → ℕ → List ℕ
+eachOnce k zero = []
+eachOnce k (suc m) = k ∷ eachOnce (suc k) m
 
 -- m frames, each through all n stages
 unfoldable pub frames : ℕ → ℕ → List ℕ
 frames n zero = []
-frames n (suc m) = row 0 n ++ frames n m
+frames n (suc m) = eachOnce 0 n ++ frames n m
 
 -- ---- the recursion. Here an `Out` is a run of samples of any length, with what all stages hold
 
@@ -37,19 +37,19 @@ module _ {X H : Type 0} where
 
   module _ (C : Chain X H) where
     -- a frame that stage k made, with its own put back
-    unfoldable pub back : ℕ → Out X H → Out X H → Out X H
-    back k q r = record { frame = q .frame; held = C .put k (q .held) (r .held) }
+    unfoldable pub putBack : ℕ → Out X H → Out X H → Out X H
+    putBack k q r = record { frame = q .frame; held = C .put k (q .held) (r .held) }
 
     -- a frame through stage k
-    unfoldable pub one : ℕ → Out X H → Out X H
-    one k r = back k (C .make k (r .frame) (C .own k (r .held))) r
+    unfoldable pub through : ℕ → Out X H → Out X H
+    through k r = putBack k (C .make k (r .frame) (C .own k (r .held))) r
 
     -- a frame through m stages, from stage k on
     unfoldable pub pass : ℕ → ℕ → Out X H → Out X H
     pass k zero r = r
-    pass k (suc m) r = pass (suc k) m (one k r)
+    pass k (suc m) r = pass (suc k) m (through k r)
 
     -- m frames, one after another, each through all stages
-    unfoldable pub render : ℕ → Out X H → Out X H
-    render zero r = r
-    render (suc m) r = followedBy (pass 0 (C .n) (first r)) (render m (rest (pass 0 (C .n) (first r)) r))
+    unfoldable pub frameByFrame : ℕ → Out X H → Out X H
+    frameByFrame zero r = r
+    frameByFrame (suc m) r = followedBy (pass 0 (C .n) (first r)) (frameByFrame m (rest (pass 0 (C .n) (first r)) r))

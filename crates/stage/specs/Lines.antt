@@ -23,7 +23,7 @@ linesOf rate (Delay frames feedback mix owned) = frames ∷ []
 abbrev pub offLine : List ℕ → List ℕ → ℕ → Bool
 offLine lines positions j = leb (getD lines j 0) (getD positions j 0)
 
--- and so is one of some positions
+-- of some positions, one is not below its line's length
 unfoldable pub lostFrom : List ℕ → List ℕ → Bool
 lostFrom lines positions = some (offLine lines positions) (length lines)
 

@@ -87,7 +87,7 @@ unfoldable pub stepOf : ℕ → ℕ → ℕ → List Stage → List ℕ → ℕ 
 unfolding stageStep spanOf
 stepOf n left rate l starts i e r = stageStep rate (spanOf n left rate l starts (i + 1) e) (stageAt l i) r
 
--- ---- "a step of the stage at a list place", of at most 16 places and with depths down to 3; elsewhere the frame comes back and nothing changes
+-- ---- a step of the stage at a list place, of at most 16 places and with depths down to 3; elsewhere the frame comes back and nothing changes
 
 unfoldable pub processAt : ℕ → List Stage → List ℕ → ℕ → ℕ → Ran → Ran
 unfolding stepOf

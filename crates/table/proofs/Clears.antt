@@ -23,9 +23,10 @@ use Rattle.refuse.specs.Shape.{faultyOf}
 use Rattle.tops.specs.Tops.{topsOf}
 use Rattle.rows.specs.Rows.{Row}
 use Rattle.refuse.specs.Refusals.{outOfRange, lostAt, aheadAt, unrunFrom, badSample, stuckOf, chainRows, blockRows, answerOf}
-use Rattle.table.specs.Table.{Faulty, OutOfRange, Lost, Ahead, BadSample, conditions, Clear}
+use Rattle.table.specs.Table.{Faulty, OutOfRange, Lost, Ahead, BadSample, conditions}
 use Rattle.refuse.proofs.Bools.{true-or-false, not-so, or-none}
 use Rattle.refuse.proofs.Rows.{Refusing, NoRow, no-row, no-row-accepted}
+use Rattle.table.proofs.Clear.{Clear}
 use Rattle.table.proofs.Stucks.{runs-so, runs-is}
 use Rattle.table.proofs.Plain.{none-such, such-none, either-so, faulty-so, faulty-is, outside-so, outside-is, lost-so, lost-is, ahead-so, ahead-is, bad-so, bad-is}
 use Rattle.table.proofs.Numbered.{AllTell}

@@ -5,7 +5,7 @@ use mathlib.Core.List.{List, [], _∷_}
 use Prim.Native.Nat.{ℕ, zero, suc, _≤_, _<_}
 use native.Mathlib.Omega.{arith}
 use lib.ListN.{length}
-use Rattle.order.specs.Order.{Accepted}
+use Rattle.order.specs.Order.{Allowed}
 use Rattle.order.specs.Chain.{OkFrom}
 use Rattle.refuse.specs.Refusals.{mayRun, stuckOf}
 use Rattle.table.specs.Table.{tick, Stuck}
@@ -13,7 +13,7 @@ use Rattle.refuse.proofs.Entries.{may-means, may-is}
 
 module _ (tops frames : ℕ) where
   abbrev Runs : List ℕ → List ℕ → Type 0
-  Runs p xs = Accepted tick (OkFrom tops frames) p xs
+  Runs p xs = Allowed tick (OkFrom tops frames) p xs
 
   -- what the first entry tells
   module _ (p : List ℕ) (k : ℕ) (ks : List ℕ) where

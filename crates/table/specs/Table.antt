@@ -7,7 +7,7 @@ use Prim.Native.Nat.{ℕ, zero, suc, _+_, _*_, _-_, _/_, _%_, _≤_, _<_}
 use lib.ListN.{length, getD, set, take}
 use lib.Ieee.{Float, nan}
 use Rattle.float.specs.Finite.{finiteOf}
-use Rattle.order.specs.Order.{run, Accepted}
+use Rattle.order.specs.Order.{run, Allowed}
 use Rattle.order.specs.Chain.{OkFrom}
 use Rattle.stage.specs.declared.kind.Stage.{Stage}
 use Rattle.stage.specs.Kind.{stageAt}
@@ -53,7 +53,7 @@ tick k progress = set progress k (getD progress k 0 + 1)
 -- 11: the entries before this one may be run one after another, and this one then may not
 pub record Stuck (tops frames : ℕ) (progress order : List ℕ) (place : ℕ) : Type 0 where
   pub inside : place < length order
-  pub before : Accepted tick (OkFrom tops frames) progress (take place order)
+  pub before : Allowed tick (OkFrom tops frames) progress (take place order)
   pub stuck : OkFrom tops frames (run tick progress (take place order)) (getD order place 0) → ⊥
 
 -- ---- the table
@@ -99,20 +99,3 @@ module _ (asked : List (ℕ → Type 0)) where
     pub accepted : acceptedOf answer ≡ true → (n p : ℕ) → Applies n p → ⊥
     pub refused : acceptedOf answer ≡ false → Given (numberOf answer) (placeOf answer)
     pub exactly : (n p : ℕ) → Given n p → (numberOf answer ≡ n) × (placeOf answer ≡ p)
-
-module _ (rate : ℕ) (l : List Stage) (c floats : ℕ) (samples : List Float) (positions progress order : List ℕ) where
-  -- no row applies: what an accepted call is known to meet
-  pub record Clear : Type 0 where
-    pub slow : 8000 ≤ rate
-    pub fast : rate ≤ 192000
-    pub few : c ≤ 16
-    pub shapes : (i : ℕ) → i < c → Faulty l c i → ⊥
-    pub settings : (i : ℕ) → i < c → inRangeOf (stageAt l i) ≡ true
-    pub room : startOf rate l c ≤ floats
-    pub found : (i j : ℕ) → i < c → j < length (linesOf rate (stageAt l i)) → getD positions (placePositions * i + j) 0 < getD (linesOf rate (stageAt l i)) j 0
-    pub even : length samples % 2 ≡ 0
-    pub short : length samples / 2 ≤ 4096
-    pub within : (k : ℕ) → k < topsOf l c → getD progress k 0 ≤ length samples / 2
-    pub falls : (k : ℕ) → k < topsOf l c → 0 < k → getD progress k 0 ≤ getD progress (k - 1) 0
-    pub finite : (i : ℕ) → unrunFrom (topsOf l c) progress ≤ i → i < length samples → finiteOf (getD samples i nan) ≡ true
-    pub runs : Accepted tick (OkFrom (topsOf l c) (length samples / 2)) progress order

@@ -12,7 +12,7 @@ use Rattle.nearest.specs.Whole.{NearestWhole}
 use Rattle.wav.specs.Sample.{sampleIn, sampleOut, heldOf}
 use Rattle.wav.specs.Frames.{samplesOf, bytesOf}
 
--- the 16-bit numbers
+-- the 16-bit numbers: `mag` of n is n, and of -(n + 1) it is n too
 abbrev pub Sixteen : ℤ → Type 0
 Sixteen z = mag z < 32768
 

@@ -31,13 +31,13 @@ pub record Layout : Type 0 where
   pub byteRate : ℕ
   pub block : ℕ
   pub bits : ℕ
-  pub samples : ℕ
+  pub dataName : ℕ
   pub size : ℕ
   pub length : ℕ
 
 -- the 44-byte layout of the Multimedia Programming Interface
 abbrev pub plain : Layout
-plain = record { riff = 0; riffSize = 4; wave = 8; fmt = 12; fmtSize = 16; tag = 20; channels = 22; rate = 24; byteRate = 28; block = 32; bits = 34; samples = 36; size = 40; length = 44 }
+plain = record { riff = 0; riffSize = 4; wave = 8; fmt = 12; fmtSize = 16; tag = 20; channels = 22; rate = 24; byteRate = 28; block = 32; bits = 34; dataName = 36; size = 40; length = 44 }
 
 -- a chunk name of these four letters, by their ASCII codes, as a number
 abbrev pub named : ℕ → ℕ → ℕ → ℕ → ℕ
@@ -51,7 +51,7 @@ namesRight bytes =
     eqb (fourAt bytes (plain .riff)) (named 82 73 70 70)
     && eqb (fourAt bytes (plain .wave)) (named 87 65 86 69)
     && eqb (fourAt bytes (plain .fmt)) (named 102 109 116 32)
-    && eqb (fourAt bytes (plain .samples)) (named 100 97 116 97)
+    && eqb (fourAt bytes (plain .dataName)) (named 100 97 116 97)
     && eqb (fourAt bytes (plain .fmtSize)) 16
     && eqb (fourAt bytes (plain .riffSize)) (fourAt bytes (plain .size) + 36)
 

@@ -5,8 +5,8 @@ use borrow.Author.Needs.{needs}
 use Rattle.compare_face.proofs.effects.sedhavil_distortion.Statement.{statement}
 use Rattle.compare_face.proofs.effects.sedhavil_distortion.Tie as tie
 
-frame-in-requires : tie.Need-frame-in-requires
-frame-in-requires c κs = search needs
+pair-in-requires : tie.Need-pair-in-requires
+pair-in-requires c κs = search needs
 
 clip-at-requires : tie.Need-clip-at-requires
 clip-at-requires c κs = search needs
@@ -21,4 +21,4 @@ returns : tie.Need-returns
 returns c = cc (toZ-ofZ w32 (c .before .before .before .before .args .drive) (c .before .before .before .before .fits .drive))
 
 pub sedhavil-distortion-spec : {M : Type 1} → statement M
-sedhavil-distortion-spec = tie.close (tie.spec frame-in-requires clip-at-requires process-requires pair-out-requires returns)
+sedhavil-distortion-spec = tie.close (tie.spec pair-in-requires clip-at-requires process-requires pair-out-requires returns)

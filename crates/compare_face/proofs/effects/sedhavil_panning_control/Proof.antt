@@ -3,8 +3,8 @@ use borrow.Author.Needs.{needs}
 use Rattle.compare_face.proofs.effects.sedhavil_panning_control.Statement.{statement}
 use Rattle.compare_face.proofs.effects.sedhavil_panning_control.Tie as tie
 
-frame-in-requires : tie.Need-frame-in-requires
-frame-in-requires c κs = search needs
+pair-in-requires : tie.Need-pair-in-requires
+pair-in-requires c κs = search needs
 
 process-requires : tie.Need-process-requires
 process-requires c κs = search needs
@@ -16,4 +16,4 @@ returns : tie.Need-returns
 returns c = cc
 
 pub sedhavil-panning-control-spec : {M : Type 1} → statement M
-sedhavil-panning-control-spec = tie.close (tie.spec frame-in-requires process-requires pair-out-requires returns)
+sedhavil-panning-control-spec = tie.close (tie.spec pair-in-requires process-requires pair-out-requires returns)

@@ -5,8 +5,8 @@ use borrow.Author.Needs.{needs}
 use Rattle.compare_face.proofs.effects.sedhavil_volume_control.Statement.{statement}
 use Rattle.compare_face.proofs.effects.sedhavil_volume_control.Tie as tie
 
-frame-in-requires : tie.Need-frame-in-requires
-frame-in-requires c κs = search needs
+pair-in-requires : tie.Need-pair-in-requires
+pair-in-requires c κs = search needs
 
 process-requires : tie.Need-process-requires
 process-requires c κs = search needs
@@ -18,4 +18,4 @@ returns : tie.Need-returns
 returns c = cc (toZ-ofZ w32 (c .before .before .before .args .volume) (c .before .before .before .fits .volume))
 
 pub sedhavil-volume-control-spec : {M : Type 1} → statement M
-sedhavil-volume-control-spec = tie.close (tie.spec frame-in-requires process-requires pair-out-requires returns)
+sedhavil-volume-control-spec = tie.close (tie.spec pair-in-requires process-requires pair-out-requires returns)
