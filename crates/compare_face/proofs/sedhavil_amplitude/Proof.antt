@@ -9,7 +9,7 @@ amplitude-requires : tie.Need-amplitude-requires
 amplitude-requires c κs = search needs
 
 returns : tie.Need-returns
-returns c = cc (toZ-ofZ w32 (c .before .args .decibels) (c .before .fits .decibels))
+returns c = rw (c .amplitude .ensures, toZ-ofZ w32 (c .before .args .decibels) (c .before .fits .decibels))
 
 pub sedhavil-amplitude-spec : {M : Type 1} → statement M
 sedhavil-amplitude-spec = tie.close (tie.spec amplitude-requires returns)

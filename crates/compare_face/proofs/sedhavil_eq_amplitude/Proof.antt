@@ -9,7 +9,7 @@ eq-amplitude-requires : tie.Need-eq-amplitude-requires
 eq-amplitude-requires c κs = search needs
 
 returns : tie.Need-returns
-returns c = cc (toZ-ofZ w32 (c .before .args .gain) (c .before .fits .gain))
+returns c = rw (c .eq-amplitude .ensures, toZ-ofZ w32 (c .before .args .gain) (c .before .fits .gain))
 
 pub sedhavil-eq-amplitude-spec : {M : Type 1} → statement M
 sedhavil-eq-amplitude-spec = tie.close (tie.spec eq-amplitude-requires returns)

@@ -1,7 +1,9 @@
 -- What `calculate` promises, of the kind that the code stands for; a gain goes through as the integer that it is (`toZ-ofZ`). Assumes nothing.
+use mathlib.Core.Path.{ap, _∙_}
 use mir.Syntax.{w32}
 use mir.ValLaws.{toZ-ofZ}
 use borrow.Author.Needs.{needs}
+use Rattle.compare_face.specs.Structs.{coefficientsOut}
 use Rattle.compare_face.proofs.effects.sedhavil_coefficients.Statement.{statement}
 use Rattle.compare_face.proofs.effects.sedhavil_coefficients.Tie as tie
 
@@ -12,7 +14,7 @@ calculate-requires : tie.Need-calculate-requires
 calculate-requires c κs = search needs
 
 returns : tie.Need-returns
-returns c = cc (toZ-ofZ w32 (c .before .before .args .gain) (c .before .before .fits .gain))
+returns c = ap coefficientsOut (c .calculate .ensures) ∙ rw (c .before .band-at .ensures, toZ-ofZ w32 (c .before .before .args .gain) (c .before .before .fits .gain))
 
 pub sedhavil-coefficients-spec : {M : Type 1} → statement M
 sedhavil-coefficients-spec = tie.close (tie.spec band-at-requires calculate-requires returns)

@@ -18,7 +18,7 @@ pair-out-requires : tie.Need-pair-out-requires
 pair-out-requires c κs = search needs
 
 returns : tie.Need-returns
-returns c = cc (toZ-ofZ w32 (c .before .before .before .before .args .drive) (c .before .before .before .before .fits .drive))
+returns c = rw (c .pair-out .ensures, c .before .process .ensures, c .before .before .clip-at .ensures, c .before .before .before .pair-in .ensures, toZ-ofZ w32 (c .before .before .before .before .args .drive) (c .before .before .before .before .fits .drive))
 
 pub sedhavil-distortion-spec : {M : Type 1} → statement M
 sedhavil-distortion-spec = tie.close (tie.spec pair-in-requires clip-at-requires process-requires pair-out-requires returns)

@@ -21,7 +21,7 @@ processed-out-requires : tie.Need-processed-out-requires
 processed-out-requires c κs = search needs
 
 returns : tie.Need-returns
-returns c = cc (toZ-ofZ w32 (c .before .before .before .before .before .args .gain) (c .before .before .before .before .before .fits .gain))
+returns c = rw (c .processed-out .ensures, c .before .process .ensures, c .before .before .band-at .ensures, c .before .before .before .integrators-in .ensures, c .before .before .before .before .pair-in .ensures, toZ-ofZ w32 (c .before .before .before .before .before .args .gain) (c .before .before .before .before .before .fits .gain))
 
 pub sedhavil-eq-filter-spec : {M : Type 1} → statement M
 sedhavil-eq-filter-spec = tie.close (tie.spec pair-in-requires integrators-in-requires band-at-requires process-requires processed-out-requires returns)

@@ -19,7 +19,7 @@ processed-out-requires : tie.Need-processed-out-requires
 processed-out-requires c κs = search needs
 
 returns : tie.Need-returns
-returns c = cc
+returns c = rw (c .processed-out .ensures, c .before .process .ensures, c .before .before .mode-at .ensures, c .before .before .before .integrators-in .ensures, c .before .before .before .before .pair-in .ensures)
 
 pub sedhavil-filter-spec : {M : Type 1} → statement M
 sedhavil-filter-spec = tie.close (tie.spec pair-in-requires integrators-in-requires mode-at-requires process-requires processed-out-requires returns)

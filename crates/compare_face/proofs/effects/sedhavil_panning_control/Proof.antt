@@ -13,7 +13,7 @@ pair-out-requires : tie.Need-pair-out-requires
 pair-out-requires c κs = search needs
 
 returns : tie.Need-returns
-returns c = cc
+returns c = rw (c .pair-out .ensures, c .before .process .ensures, c .before .before .pair-in .ensures)
 
 pub sedhavil-panning-control-spec : {M : Type 1} → statement M
 sedhavil-panning-control-spec = tie.close (tie.spec pair-in-requires process-requires pair-out-requires returns)

@@ -15,7 +15,7 @@ pair-out-requires : tie.Need-pair-out-requires
 pair-out-requires c κs = search needs
 
 returns : tie.Need-returns
-returns c = cc (toZ-ofZ w32 (c .before .before .before .args .volume) (c .before .before .before .fits .volume))
+returns c = rw (c .pair-out .ensures, c .before .process .ensures, c .before .before .pair-in .ensures, toZ-ofZ w32 (c .before .before .before .args .volume) (c .before .before .before .fits .volume))
 
 pub sedhavil-volume-control-spec : {M : Type 1} → statement M
 sedhavil-volume-control-spec = tie.close (tie.spec pair-in-requires process-requires pair-out-requires returns)
