@@ -1,15 +1,71 @@
--- A table: each row is a condition and an answer, and "the first that applies, in this order, is given". Definitions only.
+-- A table of refusals: "the first that applies, in this order, is given", with its number and place. Definitions only.
+-- A row says its condition once; what it means in plain logic and how it is decided both come from that.
+use mathlib.Core.Path.{_≡_}
+use mathlib.Core.Logic.{_⊎_}
 use mathlib.Core.Bool.{Bool, cond}
 use mathlib.Core.List.{List, [], _∷_}
+use Prim.Native.Nat.{ℕ, _<_}
+use Rattle.rows.specs.First.{firstOf, some}
+use Rattle.rows.specs.Condition.{Condition, Holds, decide}
 
+-- when a row applies, and with which place
+pub data When : Type 0 where
+  -- where this is so, with this place
+  given : ℕ → Condition → When
+  -- where this is so of one of n places, with the first of them
+  first : ℕ → (ℕ → Condition) → When
+
+-- a row: its number, when it applies, and its answer by the place
 pub record Row (A : Type 0) : Type 0 where
-  pub applies : Bool
-  pub answer : A
+  pub number : ℕ
+  pub when : When
+  pub answer : ℕ → A
 
-abbrev pub row : {A : Type 0} → Bool → A → Row A
-row applies answer = record { applies = applies; answer = answer }
+abbrev pub row : {A : Type 0} → ℕ → When → (ℕ → A) → Row A
+row number when answer = record { number = number; when = when; answer = answer }
+
+-- ---- in plain logic
+
+-- it applies with this place
+abbrev pub AppliesAt : When → ℕ → Type 0
+AppliesAt (given place c) p = Holds c × (p ≡ place)
+AppliesAt (first n c) p = (p < n) × Holds (c p) × ((j : ℕ) → j < p → Holds (c j) → ⊥)
+
+-- it does not apply
+abbrev pub Never : When → Type 0
+Never (given place c) = Holds c → ⊥
+Never (first n c) = (i : ℕ) → i < n → Holds (c i) → ⊥
+
+module _ {A : Type 0} where
+  -- no row applies
+  abbrev pub NoRow : List (Row A) → Type 0
+  NoRow [] = Unit {0}
+  NoRow (r ∷ rs) = Never (r .when) × NoRow rs
+
+  -- of the rows that apply the first has this number, and applies with this place
+  abbrev pub Given : List (Row A) → ℕ → ℕ → Type 0
+  Given [] n p = ⊥
+  Given (r ∷ rs) n p = ((r .number ≡ n) × AppliesAt (r .when) p) ⊎ (Never (r .when) × Given rs n p)
+
+  -- the answer is the table's, and the one that is given where no row applies is `other`: an answer's number is 0 where it is no refusal
+  pub record ByTheTable (numberOf placeOf : A → ℕ) (rows : List (Row A)) (other answer : A) : Type 0 where
+    pub accepted : NoRow rows → answer ≡ other
+    pub clear : numberOf answer ≡ 0 → NoRow rows
+    pub refused : 0 < numberOf answer → Given rows (numberOf answer) (placeOf answer)
+    pub exactly : (n p : ℕ) → Given rows n p → (numberOf answer ≡ n) × (placeOf answer ≡ p)
+
+-- ---- decided
+
+-- whether it applies, and with which place
+abbrev pub applies : When → Bool
+applies (given place c) = decide c
+applies (first n c) = some (λ i. decide (c i)) n
+
+abbrev pub placeIn : When → ℕ
+placeIn (given place c) = place
+placeIn (first n c) = firstOf (λ i. decide (c i)) n
 
 -- the answer of the first row that applies, and another where none does
 unfoldable pub firstRow : {A : Type 0} → List (Row A) → A → A
 firstRow [] other = other
-firstRow (r ∷ rs) other = cond (r .applies) (r .answer) (firstRow rs other)
+firstRow (r ∷ rs) other = cond (applies (r .when)) (r .answer (placeIn (r .when))) (firstRow rs other)
