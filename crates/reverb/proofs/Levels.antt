@@ -10,7 +10,7 @@ use Rattle.float.specs.Literal.{literal}
 use Rattle.frame.specs.declared.Frame.{Frame}
 use Rattle.frame.specs.Mix.{mixOf}
 use Rattle.line.specs.Held.{Held, front, back, joined, Ran, ran}
-use Rattle.tuning.specs.Tuning.{reverbLines, total, reverbFloats}
+use Rattle.tuning.specs.Tuning.{combCount, lineCount, reverbLines, total, reverbFloats}
 use Rattle.reverb.specs.Reverb.{Heard, heard, combOf, passOf, linesInTurn, sideOf, widthOf, reverbed, reverbOf}
 
 abbrev pub mono : Frame → Float
@@ -22,7 +22,7 @@ both width mix x left right = ran (mixOf (widthOf (left .out) (right .out) width
 
 -- is there room for a reverb?
 abbrev pub fits : ℕ → Held → Bool
-fits rate h = leb (reverbFloats rate) (length (h .store)) && leb 24 (length (h .positions)) && leb 16 (length (h .floats))
+fits rate h = leb (reverbFloats rate) (length (h .store)) && leb lineCount (length (h .positions)) && leb combCount (length (h .floats))
 
 -- eight combs and then four all-passes
 abbrev pub side : List ℕ → List ℕ → Float → Float → Float → Held → Heard

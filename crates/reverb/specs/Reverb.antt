@@ -11,7 +11,7 @@ use Rattle.frame.specs.Mix.{mixOf}
 use Rattle.line.specs.Held.{Held, holds, front, back, joined, Ran, ran}
 use Rattle.line.specs.Comb.{combedOf, combLineOf}
 use Rattle.line.specs.AllPass.{passedOf, passLineOf}
-use Rattle.tuning.specs.Tuning.{reverbLines, total, reverbFloats}
+use Rattle.tuning.specs.Tuning.{sideCombs, sideLines, combCount, lineCount, reverbLines, total, reverbFloats}
 
 -- a sample, and what is held beside it
 pub record Heard : Type 0 where
@@ -46,7 +46,7 @@ linesInTurn floats line next (n ∷ ns) x h =
 -- a side has twelve lines: "eight combs a side summed from 0; four all-passes a side in series"
 unfoldable pub sideOf : List ℕ → Float → Float → Float → Held → Heard
 unfolding linesInTurn
-sideOf lines feedback damping input h = linesInTurn 1 (combOf feedback damping input) (linesInTurn 0 passOf heard (drop 8 lines)) (take 8 lines) (literal binary32 0 1) h
+sideOf lines feedback damping input h = linesInTurn 1 (combOf feedback damping input) (linesInTurn 0 passOf heard (drop sideCombs lines)) (take sideCombs lines) (literal binary32 0 1) h
 
 -- `wet_1 = stereo_width / 2.0 + 0.5`, `wet_2 = (1.0 - stereo_width) / 2.0`
 unfoldable pub widthOf : Float → Float → Float → Frame
@@ -61,14 +61,14 @@ unfolding sideOf
 reverbed rate feedback damping width mix r =
     let input = mul binary32 (add binary32 (r .frame .left) (r .frame .right)) (literal binary32 15 1000) in
     let lines = reverbLines rate in
-    let n = total (take 12 lines) in
-    let left = sideOf (take 12 lines) feedback damping input (front n 12 8 (r .held)) in
-    let right = sideOf (drop 12 lines) feedback damping input (back n 12 8 (r .held)) in
+    let n = total (take sideLines lines) in
+    let left = sideOf (take sideLines lines) feedback damping input (front n sideLines sideCombs (r .held)) in
+    let right = sideOf (drop sideLines lines) feedback damping input (back n sideLines sideCombs (r .held)) in
     ran (mixOf (widthOf (left .out) (right .out) width) (r .frame) mix) (joined (left .held) (right .held))
 
 -- where there is room for it; otherwise the frame comes back and nothing changes
 unfoldable pub reverbOf : ℕ → Float → Float → Float → Float → Ran → Ran
 unfolding reverbed
 reverbOf rate feedback damping width mix r =
-    cond (leb (reverbFloats rate) (length (r .held .store)) && leb 24 (length (r .held .positions)) && leb 16 (length (r .held .floats)))
+    cond (leb (reverbFloats rate) (length (r .held .store)) && leb lineCount (length (r .held .positions)) && leb combCount (length (r .held .floats)))
     (reverbed rate feedback damping width mix r) r

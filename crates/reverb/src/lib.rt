@@ -8,14 +8,21 @@ ghost use lib.Ieee.{Float};
 ghost use lib.ListN.{length};
 ghost use lib.Seq.{slice};
 ghost use Rattle.line.specs.Held.{holds, ran};
-ghost use Rattle.tuning.specs.Tuning.{reverbLines, total};
+ghost use Rattle.tuning.specs.Tuning.{lineCount, reverbLines, total};
 ghost use Rattle.reverb.specs.Reverb.{heard, combOf, passOf, linesInTurn, widthOf, reverbOf};
 use frame::Frame;
 use line::all_pass;
 use line::comb;
+use tuning::COMBS;
+use tuning::LINES;
+use tuning::SIDE_COMBS;
+use tuning::SIDE_LINES;
 use tuning::floats_from;
 use tuning::reverb_floats;
 use tuning::reverb_line;
+
+// The right side's all-passes begin at this line.
+const RIGHT_PASSES: usize = SIDE_LINES + SIDE_COMBS;
 
 // The all-passes from line k up to line `end`, one after another.
 fn passes(
@@ -26,7 +33,7 @@ fn passes(
     store: &mut [f32],
     positions: &mut [usize],
 ) -> f32
-    requires { ⌜ (k ≤ end) × (end ≤ 24) × (total (slice k end (reverbLines rate)) ≤ length (now store)) × (end ≤ k + length (now positions)) ⌝ }
+    requires { ⌜ (k ≤ end) × (end ≤ lineCount) × (total (slice k end (reverbLines rate)) ≤ length (now store)) × (end ≤ k + length (now positions)) ⌝ }
     ensures { λ r. ⌜ ((floats : List Float) → heard r (holds (now (store .exit)) (now (positions .exit)) floats)
         ≡ linesInTurn 0 passOf heard (slice k end (reverbLines rate)) input (holds (now (store .entry)) (now (positions .entry)) floats)) ⌝ }
 {
@@ -59,7 +66,7 @@ fn combs(
     positions: &mut [usize],
     floats: &mut [f32],
 ) -> f32
-    requires { ⌜ (k ≤ end) × (end + 4 ≤ 24) × (total (slice k end (reverbLines rate)) + total (slice end (end + 4) (reverbLines rate)) ≤ length (now store)) × (end + 4 ≤ k + length (now positions)) × (end ≤ k + length (now floats)) ⌝ }
+    requires { ⌜ (k ≤ end) × (end + 4 ≤ lineCount) × (total (slice k end (reverbLines rate)) + total (slice end (end + 4) (reverbLines rate)) ≤ length (now store)) × (end + 4 ≤ k + length (now positions)) × (end ≤ k + length (now floats)) ⌝ }
     ensures { λ r. ⌜ heard r (holds (now (store .exit)) (now (positions .exit)) (now (floats .exit)))
         ≡ linesInTurn 1 (combOf feedback damping input) (linesInTurn 0 passOf heard (slice end (end + 4) (reverbLines rate))) (slice k end (reverbLines rate)) sum (holds (now (store .entry)) (now (positions .entry)) (now (floats .entry))) ⌝ }
 {
@@ -123,37 +130,37 @@ pub fn process(
     if store.len() < needed {
         return input;
     }
-    if positions.len() < 24 {
+    if positions.len() < LINES {
         return input;
     }
-    if floats.len() < 16 {
+    if floats.len() < COMBS {
         return input;
     }
     let mono = (input.left + input.right) * 0.015;
-    let n = needed - floats_from(12, rate);
+    let n = needed - floats_from(SIDE_LINES, rate);
     let left = combs(
         0,
-        8,
+        SIDE_COMBS,
         rate,
         feedback,
         damping,
         mono,
         0.0,
         &mut store[..n],
-        &mut positions[..12],
-        &mut floats[..8],
+        &mut positions[..SIDE_LINES],
+        &mut floats[..SIDE_COMBS],
     );
     let right = combs(
-        12,
-        20,
+        SIDE_LINES,
+        RIGHT_PASSES,
         rate,
         feedback,
         damping,
         mono,
         0.0,
         &mut store[n..],
-        &mut positions[12..],
-        &mut floats[8..],
+        &mut positions[SIDE_LINES..],
+        &mut floats[SIDE_COMBS..],
     );
     widened(left, right, stereo_width).mixed(input, mix)
 }

@@ -13,10 +13,11 @@ use Rattle.filters.specs.declared.filter.FilterMode.the-variants.{LowPass}
 use Rattle.filters.specs.declared.eq_filter.EqFilterKind.the-variants.{Bell}
 use Rattle.stage.specs.declared.kind.Stage.{Stage}
 use Rattle.stage.specs.declared.kind.Stage.the-variants.{PanningControl, Distortion, Filter, EqFilter, Reverb, Delay}
-use Rattle.stage.specs.First.{firstFrom}
-use Rattle.stage.specs.Kind.{nextPlace}
-use Rattle.stage.specs.Layout.{floatsOf}
-use Rattle.stage.specs.Lines.{lostOf}
+use Rattle.rows.specs.First.{firstFrom}
+use Rattle.rows.specs.Condition.{decide}
+use Rattle.stage.specs.Setup.{nextPlace}
+use Rattle.stage.specs.Holding.{holdingOf}
+use Rattle.stage.specs.Lines.{lengthsOf, floatsOf, lostOf}
 use Rattle.stage.specs.Range.{inRangeOf}
 
 abbrev pub one : Float
@@ -135,20 +136,20 @@ unfolding floatsOf
 delay-floats = refl
 
 -- a position at its line's length is lost, and one below it is not
-pub delay-last : lostOf 44100 (delayed 10) (9 ∷ []) ≡ false
-unfolding lostOf firstFrom
+pub delay-last : decide (lostOf 44100 (delayed 10) (9 ∷ [])) ≡ false
+unfolding holdingOf lengthsOf firstFrom
 delay-last = refl
 
-pub delay-lost : lostOf 44100 (delayed 10) (10 ∷ []) ≡ true
-unfolding lostOf firstFrom
+pub delay-lost : decide (lostOf 44100 (delayed 10) (10 ∷ [])) ≡ true
+unfolding holdingOf lengthsOf firstFrom
 delay-lost = refl
 
-pub reverb-last : lostOf 44100 (Reverb one one one one) (1115 ∷ 1187 ∷ []) ≡ false
-unfolding lostOf firstFrom reverbLines
+pub reverb-last : decide (lostOf 44100 (Reverb one one one one) (1115 ∷ 1187 ∷ [])) ≡ false
+unfolding holdingOf lengthsOf firstFrom reverbLines
 reverb-last = refl
 
-pub reverb-lost : lostOf 44100 (Reverb one one one one) (1115 ∷ 1188 ∷ []) ≡ true
-unfolding lostOf firstFrom reverbLines
+pub reverb-lost : decide (lostOf 44100 (Reverb one one one one) (1115 ∷ 1188 ∷ [])) ≡ true
+unfolding holdingOf lengthsOf firstFrom reverbLines
 reverb-lost = refl
 
 -- a delay at place 1 that owns two stages: the next place is 4, or the end before that

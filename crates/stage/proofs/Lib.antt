@@ -1,7 +1,7 @@
 pub mod Unnamed
-pub mod Firsts
 pub mod Listed
 pub mod FewLines
+pub mod LinesHeld
 pub mod Starts
 pub mod Next
 pub mod OneOutcome

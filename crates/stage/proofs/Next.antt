@@ -6,7 +6,8 @@ use native.Mathlib.Omega.{arith}
 use native.Mathlib.Decide.{decLt}
 use borrow.Author.Tests.{lt-ltb, le-ltb}
 use Rattle.stage.specs.declared.kind.Stage.{Stage}
-use Rattle.stage.specs.Kind.{ownedOf, nextPlace}
+use Rattle.stage.specs.Holding.{ownedOf}
+use Rattle.stage.specs.Setup.{nextPlace}
 
 module _ (s : Stage) (i end : ℕ) where
   -- what it owns stays inside

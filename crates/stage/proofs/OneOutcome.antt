@@ -5,11 +5,12 @@ use Rattle.stage.proofs.kind as kind
 use Rattle.stage.proofs.layout as layout
 use Rattle.stage.proofs.lines as lines
 use Rattle.stage.proofs.range as range
+use Rattle.stage.proofs.setup as setup
 
-pub owned-single : Single kind.owned.Reads.Post
-owned-single κs a r r' s s' p q = p ∙ sym q
+pub holding-of-single : Single kind.holding_of.Reads.Post
+holding-of-single κs a r r' s s' p q = p ∙ sym q
 
-pub floats-of-single : Single layout.floats_of.Reads.Post
+pub floats-of-single : Single lines.floats_of.Reads.Post
 floats-of-single κs a r r' s s' p q = p .0 ∙ sym (q .0)
 
 pub starts-of-single : Single layout.starts_of.Reads.Post
@@ -29,3 +30,9 @@ is-lost-single κs a r r' s s' p q = p ∙ sym q
 
 pub in-range-single : Single range.in_range.Reads.Post
 in-range-single κs a r r' s s' p q = p ∙ sym q
+
+pub empty-single : Single setup.empty.Reads.Post
+empty-single κs a r r' s s' p q = p ∙ sym q
+
+pub with-single : Single setup.with.Reads.Post
+with-single κs a r r' s s' p q = p ∙ sym q

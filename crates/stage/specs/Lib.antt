@@ -1,5 +1,5 @@
-pub mod First
-pub mod Kind
+pub mod Holding
+pub mod Setup
 pub mod Listed
 pub mod Layout
 pub mod Lines

@@ -1,32 +1,37 @@
--- A stage's lines, and whether its remembered positions are on them: "a remembered position (one per line, a delay's in frames) not below its line's length". Definitions only.
-use mathlib.Core.Bool.{Bool}
+-- A stage's lines: their lengths and floats, and whether remembered positions are on them. Definitions only.
 use mathlib.Core.List.{List, [], _∷_}
-use Prim.Native.Nat.{ℕ}
-use lib.Dec.{leb}
+use Prim.Native.Nat.{ℕ, _*_}
 use lib.ListN.{length, getD}
-use Rattle.tuning.specs.Tuning.{reverbLines}
+use Rattle.rows.specs.Condition.{Condition, most, among}
+use Rattle.tuning.specs.Tuning.{reverbLines, total}
 use Rattle.stage.specs.declared.kind.Stage.{Stage}
-use Rattle.stage.specs.declared.kind.Stage.the-variants.{VolumeControl, PanningControl, Distortion, Filter, EqFilter, Reverb, Delay}
-use Rattle.stage.specs.First.{some}
+use Rattle.stage.specs.declared.kind.Lines.{Lines}
+use Rattle.stage.specs.declared.kind.Lines.the-variants.{NoLines, ReverbLines, FrameLine}
+use Rattle.stage.specs.Holding.{holdingOf}
 
--- the lengths of a stage's lines, a delay's in frames
-unfoldable pub linesOf : ℕ → Stage → List ℕ
-linesOf rate (VolumeControl volume) = []
-linesOf rate (PanningControl panning) = []
-linesOf rate (Distortion kind drive mix) = []
-linesOf rate (Filter mode g resonance mix) = []
-linesOf rate (EqFilter kind g gain q) = []
-linesOf rate (Reverb feedback damping width mix) = reverbLines rate
-linesOf rate (Delay frames feedback mix owned) = frames ∷ []
+-- the lengths of lines, a delay's in frames
+unfoldable pub lengthsOf : ℕ → Lines → List ℕ
+lengthsOf rate NoLines = []
+lengthsOf rate ReverbLines = reverbLines rate
+lengthsOf rate (FrameLine frames) = frames ∷ []
 
--- position j is not below the length of line j
-abbrev pub offLine : List ℕ → List ℕ → ℕ → Bool
-offLine lines positions j = leb (getD lines j 0) (getD positions j 0)
+-- the floats that a line has for each one of its length: "two per delay frame"
+unfoldable pub elementFloats : Lines → ℕ
+elementFloats NoLines = 0
+elementFloats ReverbLines = 1
+elementFloats (FrameLine frames) = 2
 
--- of some positions, one is not below its line's length
-unfoldable pub lostFrom : List ℕ → List ℕ → Bool
-lostFrom lines positions = some (offLine lines positions) (length lines)
+-- of a stage: the lengths of its lines, and the floats of all of them
+abbrev pub linesOf : ℕ → Stage → List ℕ
+linesOf rate stage = lengthsOf rate (holdingOf stage .lines)
 
-unfoldable pub lostOf : ℕ → Stage → List ℕ → Bool
-unfolding linesOf lostFrom
-lostOf rate s positions = lostFrom (linesOf rate s) positions
+unfoldable pub floatsOf : ℕ → Stage → ℕ
+unfolding holdingOf lengthsOf elementFloats
+floatsOf rate stage = elementFloats (holdingOf stage .lines) * total (linesOf rate stage)
+
+-- "a remembered position (one per line, a delay's in frames) not below its line's length"
+abbrev pub offLines : List ℕ → List ℕ → Condition
+offLines lines positions = among (length lines) (λ j. most (getD lines j 0) (getD positions j 0))
+
+abbrev pub lostOf : ℕ → Stage → List ℕ → Condition
+lostOf rate stage positions = offLines (linesOf rate stage) positions

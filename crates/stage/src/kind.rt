@@ -1,6 +1,7 @@
-// A stage is one of seven kinds, and each kind carries its own numbers.
+// A stage is one of seven kinds, and each kind carries its own numbers. What a stage of a kind holds
+// beside them is said here once.
 ghost use mathlib.Core.Path.{_≡_};
-ghost use Rattle.stage.specs.Kind.{ownedOf};
+ghost use Rattle.stage.specs.Holding.{holdingOf};
 use effect::distortion::DistortionKind;
 use filters::eq_filter::EqFilterKind;
 use filters::filter::FilterMode;
@@ -44,16 +45,45 @@ pub enum Stage {
     },
 }
 
-pub fn owned(stage: Stage) -> usize
-    ensures { λ r. ⌜ r ≡ ownedOf stage ⌝ }
+pub enum Lines {
+    NoLines,
+    // Those of a reverb, by the rate.
+    ReverbLines,
+    // One, of so many frames.
+    FrameLine { frames: u32 },
+}
+
+// What a stage holds: so many of the stages after it, and its lines.
+pub struct Holding {
+    pub owned: usize,
+    pub lines: Lines,
+}
+
+pub fn holding_of(stage: Stage) -> Holding
+    ensures { λ r. ⌜ r ≡ holdingOf stage ⌝ }
 {
     match stage {
+        Stage::Reverb {
+            feedback: _,
+            damping: _,
+            stereo_width: _,
+            mix: _,
+        } => Holding {
+            owned: 0,
+            lines: Lines::ReverbLines,
+        },
         Stage::Delay {
-            frames: _,
+            frames,
             feedback: _,
             mix: _,
             owned,
-        } => owned,
-        _ => 0,
+        } => Holding {
+            owned,
+            lines: Lines::FrameLine { frames },
+        },
+        _ => Holding {
+            owned: 0,
+            lines: Lines::NoLines,
+        },
     }
 }

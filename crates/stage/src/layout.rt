@@ -1,43 +1,28 @@
-// Where the lines of stages lie: in list order, each where the last one ends. A stage's memories are
-// 24 positions and 20 floats at its list place.
+// Where the lines of stages lie: in list order, each where the last one ends.
 ghost use mathlib.Core.Path.{_≡_};
-ghost use Prim.Native.Nat.{_*_, _≤_, _<_};
+ghost use Prim.Native.Nat.{_≤_, _<_};
 ghost use lib.ListN.{getD};
-ghost use Rattle.stage.specs.Kind.{nextPlace};
-ghost use Rattle.stage.specs.Layout.{floatsOf, startsOf, sizeOf};
+ghost use Rattle.stage.specs.Setup.{nextPlace};
+ghost use Rattle.stage.specs.Layout.{startsOf, sizeOf};
 use crate::kind::Stage;
-use crate::kind::owned;
-use tuning::reverb_floats;
+use crate::kind::holding_of;
+use crate::lines::floats_of;
+use crate::setup::Setup;
+use memories::PLACES;
 
-// The floats of the stage's own lines.
-pub fn floats_of(rate: u32, stage: Stage) -> usize
-    ensures { λ r. ⌜ (r ≡ floatsOf rate stage) × (r ≤ 24 * 0x1_0000_0000) ⌝ }
-{
-    match stage {
-        Stage::Reverb {
-            feedback: _,
-            damping: _,
-            stereo_width: _,
-            mix: _,
-        } => reverb_floats(rate),
-        Stage::Delay {
-            frames,
-            feedback: _,
-            mix: _,
-            owned: _,
-        } => 2 * (frames as usize),
-        _ => 0,
-    }
-}
+// A list of places has one end more than it has places: where the first begins, and where each ends.
+pub const ENDS: usize = PLACES + 1;
 
 // Where the lines of each place start, and, last, where all end.
-pub fn starts_of(rate: u32, stages: [Stage; 16]) -> [usize; 17]
-    ensures { λ r. ⌜ r ≡ startsOf rate stages ⌝ }
+pub fn starts_of(setup: Setup) -> [usize; ENDS]
+    ensures { λ r. ⌜ r ≡ startsOf setup ⌝ }
 {
-    let mut starts = [0; 17];
+    let rate = setup.rate;
+    let mut starts = [0; ENDS];
     let mut i = 0;
-    while i < 16 {
-        let stage = stages[i];
+    while i < PLACES {
+        let slot = setup.slots[i];
+        let stage = slot.stage;
         let at = starts[i];
         starts[i + 1] = at + floats_of(rate, stage);
         i += 1;
@@ -50,7 +35,8 @@ pub fn next_place(stage: Stage, i: usize, end: usize) -> usize
     ensures { λ r. ⌜ (r ≡ nextPlace stage i end) × (r ≤ end) × (i < end → i < r) ⌝ }
 {
     if i < end {
-        let n = owned(stage);
+        let holding = holding_of(stage);
+        let n = holding.owned;
         if n < end - i {
             return i + 1 + n;
         }
@@ -59,7 +45,7 @@ pub fn next_place(stage: Stage, i: usize, end: usize) -> usize
 }
 
 // The floats of the lines of the places from i up to e, by their starts.
-pub fn size_between(starts: &[usize; 17], i: usize, e: usize) -> usize
+pub fn size_between(starts: &[usize; ENDS], i: usize, e: usize) -> usize
     ensures { λ r. ⌜ r ≡ sizeOf (now (starts .entry)) i e ⌝ }
 {
     let a = number_at(starts, i);

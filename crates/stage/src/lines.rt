@@ -1,16 +1,35 @@
-// Whether a place's remembered positions are on the stage's lines.
+// A stage's lines: how many floats they have, and whether a place's remembered positions are on them.
 ghost use mathlib.Core.Path.{_≡_};
-ghost use Rattle.tuning.specs.Tuning.{reverbLines};
-ghost use Rattle.stage.specs.Lines.{lostFrom, lostOf};
+ghost use Prim.Native.Nat.{_*_, _≤_};
+ghost use Rattle.rows.specs.Condition.{decide};
+ghost use Rattle.tuning.specs.Tuning.{lineCount, reverbLines};
+ghost use Rattle.stage.specs.Lines.{floatsOf, offLines, lostOf};
+use crate::kind::Lines;
 use crate::kind::Stage;
+use crate::kind::holding_of;
 use crate::layout::number_at;
+use tuning::LINES;
+use tuning::reverb_floats;
 use tuning::reverb_line;
 
+// The floats of the stage's own lines.
+pub fn floats_of(rate: u32, stage: Stage) -> usize
+    ensures { λ r. ⌜ (r ≡ floatsOf rate stage) × (r ≤ lineCount * 0x1_0000_0000) ⌝ }
+{
+    let holding = holding_of(stage);
+    let lines = holding.lines;
+    match lines {
+        Lines::NoLines => 0,
+        Lines::ReverbLines => reverb_floats(rate),
+        Lines::FrameLine { frames } => 2 * (frames as usize),
+    }
+}
+
 fn reverb_lost(rate: u32, positions: &[usize]) -> bool
-    ensures { λ r. ⌜ r ≡ lostFrom (reverbLines rate) (now (positions .entry)) ⌝ }
+    ensures { λ r. ⌜ r ≡ decide (offLines (reverbLines rate) (now (positions .entry))) ⌝ }
 {
     let mut j = 0;
-    while j < 24 {
+    while j < LINES {
         if reverb_line(j, rate) <= number_at(positions, j) {
             return true;
         }
@@ -19,22 +38,15 @@ fn reverb_lost(rate: u32, positions: &[usize]) -> bool
     false
 }
 
+// Is one of these positions not on its line?
 pub fn is_lost(rate: u32, stage: Stage, positions: &[usize]) -> bool
-    ensures { λ r. ⌜ r ≡ lostOf rate stage (now (positions .entry)) ⌝ }
+    ensures { λ r. ⌜ r ≡ decide (lostOf rate stage (now (positions .entry))) ⌝ }
 {
-    match stage {
-        Stage::Reverb {
-            feedback: _,
-            damping: _,
-            stereo_width: _,
-            mix: _,
-        } => reverb_lost(rate, positions),
-        Stage::Delay {
-            frames,
-            feedback: _,
-            mix: _,
-            owned: _,
-        } => frames as usize <= number_at(positions, 0),
-        _ => false,
+    let holding = holding_of(stage);
+    let lines = holding.lines;
+    match lines {
+        Lines::NoLines => false,
+        Lines::ReverbLines => reverb_lost(rate, positions),
+        Lines::FrameLine { frames } => frames as usize <= number_at(positions, 0),
     }
 }

@@ -7,7 +7,7 @@ use native.Mathlib.Numerals.{add-one}
 use native.Mathlib.Omega.{arith}
 use lib.ListN.{length, getD, take, drop, List·getD-append}
 use lib.Seq.{drop-cons, getD-append-add}
-use Rattle.tuning.specs.Tuning.{tunings, reverbTunings, lengthOf, reverbLines, total, reverbFloats}
+use Rattle.tuning.specs.Tuning.{lineCount, tunings, reverbTunings, lengthOf, reverbLines, total, reverbFloats}
 
 -- ---- numbers of a list, and their total
 
@@ -33,18 +33,18 @@ total-within : (m : ℕ) (l : List ℕ) → ((k : ℕ) → k < length l → getD
 total-within m [] h = omega arith
 total-within m (x ∷ xs) h = omega (arith, h 0 (omega arith), total-within m xs (λ k g. h (suc k) (omega arith)))
 
--- ---- the 24 lines
+-- ---- the lines of both sides
 
 line-within : (n rate : ℕ) → n ≤ 44100 → lengthOf n rate ≤ rate
 unfolding lengthOf
 line-within n rate h = omega (arith, mul-le-mul-right rate h)
 
 module _ (rate : ℕ) where
-  pub lines-length : length (reverbLines rate) ≡ 24
+  pub lines-length : length (reverbLines rate) ≡ lineCount
   unfolding reverbLines
   lines-length = refl
 
-  line-at : (k : ℕ) → k < 24 → getD (reverbLines rate) k 0 ≡ lengthOf (getD reverbTunings k 0) rate
+  line-at : (k : ℕ) → k < lineCount → getD (reverbLines rate) k 0 ≡ lengthOf (getD reverbTunings k 0) rate
   unfolding reverbLines
   line-at k h = map-at (λ n. lengthOf n rate) reverbTunings k h
 
@@ -59,7 +59,7 @@ module _ (rate : ℕ) where
   floats-are = refl
 
   -- no line has more floats than there are frames in a second
-  pub reverb-within : reverbFloats rate ≤ 24 * rate
+  pub reverb-within : reverbFloats rate ≤ lineCount * rate
   reverb-within =
       rw (floats-are, ← lines-length)
-      (total-within rate (reverbLines rate) (λ k h. let k-24 : k < 24 = omega (arith, lines-length) in rw (line-at k k-24) (line-within _ rate (omega (arith, at-most-total reverbTunings k)))))
+      (total-within rate (reverbLines rate) (λ k h. let few : k < lineCount = omega (arith, lines-length) in rw (line-at k few) (line-within _ rate (omega (arith, at-most-total reverbTunings k)))))

@@ -2,6 +2,19 @@
 use mathlib.Core.List.{List, [], _∷_, _++_, map}
 use Prim.Native.Nat.{ℕ, _+_, _*_, _/_}
 
+-- a side has eight combs and four all-passes, and there are two sides
+abbrev pub sideCombs : ℕ
+sideCombs = 8
+
+abbrev pub sideLines : ℕ
+sideLines = 12
+
+abbrev pub combCount : ℕ
+combCount = 2 * sideCombs
+
+abbrev pub lineCount : ℕ
+lineCount = 2 * sideLines
+
 -- "lines, left side: 1116, 1188, 1277, 1356, 1422, 1491, 1557, 1617, then 556, 441, 341, 225"
 abbrev pub tunings : List ℕ
 tunings = 1116 ∷ 1188 ∷ 1277 ∷ 1356 ∷ 1422 ∷ 1491 ∷ 1557 ∷ 1617 ∷ 556 ∷ 441 ∷ 341 ∷ 225 ∷ []
@@ -13,7 +26,7 @@ reverbTunings = tunings ++ map (λ n. n + 23) tunings
 unfoldable pub lengthOf : ℕ → ℕ → ℕ
 lengthOf n rate = n * rate / 44100
 
--- the lengths of all 24
+-- the lengths of all lines
 unfoldable pub reverbLines : ℕ → List ℕ
 unfolding lengthOf
 reverbLines rate = map (λ n. lengthOf n rate) reverbTunings

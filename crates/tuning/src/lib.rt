@@ -4,8 +4,18 @@ ghost use mathlib.Core.Path.{_≡_};
 ghost use lib.ListN.{getD, drop};
 ghost use Rattle.tuning.specs.Tuning.{lengthOf, reverbLines, total, reverbFloats};
 
+// A side's combs, and its lines: all-passes come after the combs.
+pub const SIDE_COMBS: usize = 8;
+
+pub const SIDE_LINES: usize = 12;
+
+// Of both sides.
+pub const COMBS: usize = 2 * SIDE_COMBS;
+
+pub const LINES: usize = 2 * SIDE_LINES;
+
 // A side's eight combs, then its four all-passes.
-const TUNINGS: [u32; 12] = [
+const TUNINGS: [u32; SIDE_LINES] = [
     1116,
     1188,
     1277,
@@ -27,15 +37,15 @@ pub fn line_length(tuning: u32, rate: u32) -> usize
     ((tuning as u64) * (rate as u64) / 44100) as usize
 }
 
-// The floats of line k of a reverb's 24, and 0 past the last.
+// The floats of line k of a reverb, and 0 past the last.
 pub fn reverb_line(k: usize, rate: u32) -> usize
     ensures { λ r. ⌜ r ≡ getD (reverbLines rate) k 0 ⌝ }
 {
-    if k < 12 {
+    if k < SIDE_LINES {
         return line_length(TUNINGS[k], rate);
     }
-    if k < 24 {
-        return line_length(TUNINGS[k - 12] + 23, rate);
+    if k < LINES {
+        return line_length(TUNINGS[k - SIDE_LINES] + 23, rate);
     }
     0
 }
@@ -44,7 +54,7 @@ pub fn reverb_line(k: usize, rate: u32) -> usize
 pub fn floats_from(k: usize, rate: u32) -> usize
     ensures { λ r. ⌜ r ≡ total (drop k (reverbLines rate)) ⌝ }
 {
-    if 24 <= k {
+    if LINES <= k {
         return 0;
     }
     reverb_line(k, rate) + floats_from(k + 1, rate)

@@ -9,7 +9,7 @@ use borrow.Fn.PlainCycle.{Measures, is, falls, and}
 use denote.Ref.{now}
 use lib.ListN.{length, set, take, drop, length-set}
 use lib.Seq.{slice, length-take-le}
-use Rattle.tuning.specs.Tuning.{reverbLines, total}
+use Rattle.tuning.specs.Tuning.{lineCount, reverbLines, total}
 use Rattle.tuning.proofs.Tunings.{lines-length}
 use Rattle.line.proofs.Lent.{lent-length, first-lent, first-home}
 use Rattle.reverb.specs.Reverb.{heard, combOf, passOf, linesInTurn}
@@ -39,7 +39,7 @@ combs-calls t = (passes-reads.Asked, passes-reads.Learnt, reverb-line-reads.Aske
 known : (t : ℕ) (c : combs-lts.After-reverb-line (combs-calls t) (combs-at t) combs.Post)
     → let a = c .before .before .before .before .before .args in
     (a .k < a .end)
-    × (a .end + 4 ≤ 24)
+    × (a .end + 4 ≤ lineCount)
     × (c .reverb-line .result + total (slice (a .k + 1) (a .end) (reverbLines (a .rate))) + total (slice (a .end) (a .end + 4) (reverbLines (a .rate))) ≤ length (now (a .store)))
     × (a .end + 4 ≤ a .k + length (now (a .positions)))
     × (a .end ≤ a .k + length (now (a .floats)))

@@ -9,7 +9,7 @@ use borrow.Fn.PlainCycle.{Measures, is, falls, and}
 use denote.Ref.{now}
 use lib.ListN.{length, set, drop, length-set}
 use lib.Seq.{slice, length-take-le}
-use Rattle.tuning.specs.Tuning.{reverbLines, total}
+use Rattle.tuning.specs.Tuning.{lineCount, reverbLines, total}
 use Rattle.tuning.proofs.Tunings.{lines-length}
 use Rattle.line.proofs.Lent.{lent-length}
 use Rattle.reverb.specs.Reverb.{heard, passOf}
@@ -37,7 +37,7 @@ passes-calls t = (reverb-line-reads.Asked, reverb-line-reads.Learnt, process-rea
 -- what holds where there is a line k: among it, that this line and those after it have room in the store
 known : (t : ℕ) (c : passes-lts.After-reverb-line (passes-calls t) (passes-at t) passes.Post)
     → let a = c .before .before .before .before .args in
-    (a .k < a .end) × (a .end ≤ 24) × (c .reverb-line .result + total (slice (a .k + 1) (a .end) (reverbLines (a .rate))) ≤ length (now (a .store))) × (a .end ≤ a .k + length (now (a .positions)))
+    (a .k < a .end) × (a .end ≤ lineCount) × (c .reverb-line .result + total (slice (a .k + 1) (a .end) (reverbLines (a .rate))) ≤ length (now (a .store))) × (a .end ≤ a .k + length (now (a .positions)))
 known t c =
     let start = c .before .before .before .before in
     let a = start .args in

@@ -1,4 +1,4 @@
--- `floats_from` meets its contract: what the lines from k on have is what line k has and what those from k + 1 on have. The measure is 24 - k.
+-- `floats_from` meets its contract: what the lines from k on have is what line k has and what those from k + 1 on have. The measure is lineCount - k.
 use mathlib.Core.Path.{_≡_}
 use Prim.Native.Nat.{ℕ, _+_, _-_, _<_}
 use native.Mathlib.Omega.{arith}
@@ -6,7 +6,7 @@ use borrow.Author.Needs.{needs}
 use borrow.Fn.Kinds.{In}
 use borrow.Fn.PlainCycle.{Measures, is, falls, and}
 use lib.ListN.{getD, drop, drop-of-length-le}
-use Rattle.tuning.specs.Tuning.{reverbLines, total}
+use Rattle.tuning.specs.Tuning.{lineCount, reverbLines, total}
 use Rattle.tuning.proofs.Tunings.{total-more, total-split, lines-length, floats-are, reverb-within}
 use Rattle.tuning.proofs.floats_from.Reads as floats-from
 use Rattle.tuning.proofs.floats_from.Kinds as floats-from-kinds
@@ -16,7 +16,7 @@ use Rattle.tuning.proofs.+floats_from.{statement}
 use Rattle.tuning.proofs.+floats_from.Tie.{close}
 
 abbrev μ-floats-from : Measures 0 floats-from-kinds.ps ℕ
-μ-floats-from κs a = 24 - a .0
+μ-floats-from κs a = lineCount - a .0
 
 abbrev floats-from-at : ℕ → In 0 floats-from-kinds.ps
 floats-from-at t =
@@ -29,7 +29,7 @@ floats-from-below t =
 abbrev floats-from-calls : ℕ → floats-from-lts.Claims
 floats-from-calls t = (reverb-line-reads.Asked, reverb-line-reads.Learnt, floats-from-below t, floats-from.Post)
 
-more : (rate k : ℕ) → k < 24 → total (drop k (reverbLines rate)) ≡ getD (reverbLines rate) k 0 + total (drop (k + 1) (reverbLines rate))
+more : (rate k : ℕ) → k < lineCount → total (drop k (reverbLines rate)) ≡ getD (reverbLines rate) k 0 + total (drop (k + 1) (reverbLines rate))
 more rate k h = total-more (reverbLines rate) k (omega (arith, lines-length rate))
 
 floats-from-met : {M : Type 1} (t : ℕ) → floats-from-lts.Closed (floats-from-calls t) (floats-from-at t) floats-from.Post M

@@ -1,9 +1,11 @@
--- `layout::starts_of` meets its contract. The loop's invariant: the starts up to place i stand, and the last of them is at most i times what one stage can have. The measure is 16 - i. Assumes nothing.
+-- `layout::starts_of` meets its contract. The loop's invariant: the starts up to place i stand, and the last of them is at most i times what one stage can have. The measure is places - i. Assumes nothing.
 use mathlib.Core.Path.{_≡_, refl, _∙_}
 use Prim.Native.Nat.{ℕ, _+_, _*_, _-_, _≤_, _<_}
 use native.Mathlib.Omega.{arith}
 use lib.ListN.{length, getD, length-set}
 use borrow.Author.Needs.{needs}
+use Rattle.tuning.specs.Tuning.{lineCount}
+use Rattle.memories.specs.Sizes.{places}
 use Rattle.stage.specs.Layout.{startOf}
 use Rattle.stage.proofs.Listed.{listed-more, listed-all}
 use Rattle.stage.proofs.Starts.{start-more, starts-are}
@@ -11,21 +13,21 @@ use Rattle.stage.proofs.layout.starts_of.Statement.{statement}
 use Rattle.stage.proofs.layout.starts_of.Tie as tie
 
 abbrev Inv-loop : tie.InvT-loop
-Inv-loop rate stages starts₀ i₀ starts i =
-    (i ≤ 16) × (length starts ≡ 17) × ((k : ℕ) → k < i + 1 → getD starts k 0 ≡ startOf rate stages k) × (startOf rate stages i ≤ i * (24 * 0x1_0000_0000))
+Inv-loop setup rate starts₀ i₀ starts i =
+    (i ≤ places) × (length starts ≡ places + 1) × ((k : ℕ) → k < i + 1 → getD starts k 0 ≡ startOf setup k) × (startOf setup i ≤ i * (lineCount * 0x1_0000_0000))
 
 abbrev μ-loop : tie.MeasureT-loop
-μ-loop rate stages starts₀ i₀ starts i = 16 - i
+μ-loop setup rate starts₀ i₀ starts i = places - i
 
 loop-holds : tie.Need-loop-holds Inv-loop μ-loop
 unfolding startOf
 loop-holds c = (omega arith, refl, λ k h. let e : k ≡ 0 = omega arith in rw e, omega arith)
 
-mul-stage : tie.Need-mul-stage Inv-loop μ-loop
-mul-stage c = search needs
+mul-slot : tie.Need-mul-slot Inv-loop μ-loop
+mul-slot c = search needs
 
-array-copy-out-stage : tie.Need-array-copy-out-stage Inv-loop μ-loop
-array-copy-out-stage c = search needs
+element-copy-out-slot : tie.Need-element-copy-out-slot Inv-loop μ-loop
+element-copy-out-slot c = search needs
 
 mul-at : tie.Need-mul-at Inv-loop μ-loop
 mul-at c = search needs
@@ -60,17 +62,17 @@ loop-again : tie.Need-loop-again Inv-loop μ-loop
 loop-again c =
     let start = c .before .before .before .before in
     let at = c .before .before .before .loop in
-    let more = start-more (start .args .rate) (start .args .t2) (at .i) in (
+    let more = start-more (start .args .t1) (at .i) in (
       omega arith,
       simp length-set (at .inv .1),
-      listed-more (startOf (start .args .rate) (start .args .t2)) 0 (at .starts) (at .i + 1) _ (omega (arith, at .inv .1)) (at .inv .2) (omega (arith, more, at .inv .2 (at .i) (omega arith), c .floats-of .ensures .0)),
+      listed-more (startOf (start .args .t1)) 0 (at .starts) (at .i + 1) _ (omega (arith, at .inv .1)) (at .inv .2) (omega (arith, more, at .inv .2 (at .i) (omega arith), c .floats-of .ensures .0)),
       omega (arith, more, at .inv .3, c .floats-of .ensures .0, c .floats-of .ensures .1),
     )
 
 returns : tie.Need-returns Inv-loop μ-loop
 returns c =
     let a = c .before .before .args in
-    listed-all (startOf (a .rate) (a .t2)) 0 (c .before .loop .starts) 17 (c .before .loop .inv .1) (λ k h. c .before .loop .inv .2 k (omega arith)) ∙ starts-are (a .rate) (a .t2)
+    listed-all (startOf (a .t1)) 0 (c .before .loop .starts) (places + 1) (c .before .loop .inv .1) (λ k h. c .before .loop .inv .2 k (omega arith)) ∙ starts-are (a .t1)
 
 pub starts-of-spec : {M : Type 1} → statement M
 starts-of-spec =
@@ -79,8 +81,8 @@ starts-of-spec =
     Inv-loop
     μ-loop
     loop-holds
-    mul-stage
-    array-copy-out-stage
+    mul-slot
+    element-copy-out-slot
     mul-at
     array-read-at
     floats-of-requires

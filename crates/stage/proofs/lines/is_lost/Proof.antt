@@ -1,22 +1,26 @@
--- `lines::is_lost` meets its contract: a reverb and a delay are known, and no other kind has a line. Assumes nothing.
-use mathlib.Core.Path.{_≡_, refl}
-use mathlib.Core.Bool.{Bool, true, false, cond}
-use lib.Dec.{ltb}
+-- `lines::is_lost` meets its contract: a law of proofs/LinesHeld.antt for each kind of lines. Assumes nothing.
+use mathlib.Core.Path.{ap, _∙_}
+use denote.Ref.{now}
+use lib.Dec.{leb}
 use borrow.Author.Needs.{needs}
-use Rattle.stage.specs.First.{firstFrom}
-use Rattle.stage.specs.Lines.{linesOf, lostFrom, lostOf}
-use Rattle.stage.proofs.Unnamed.{line-none}
+use Rattle.stage.proofs.LinesHeld as held
 use Rattle.stage.proofs.lines.is_lost.Statement.{statement}
 use Rattle.stage.proofs.lines.is_lost.Tie as tie
+
+holding-of-requires : tie.Need-holding-of-requires
+holding-of-requires c κs = search needs
 
 enum-told : tie.Need-enum-told
 enum-told c = search needs
 
+enum-told-2 : tie.Need-enum-told-2
+enum-told-2 c = search needs
+
 reverb-lost-requires : tie.Need-reverb-lost-requires
 reverb-lost-requires c κs = search needs
 
-enum-known-stage : tie.Need-enum-known-stage
-enum-known-stage c = search needs
+enum-known-lines : tie.Need-enum-known-lines
+enum-known-lines c = search needs
 
 cast-result : tie.Need-cast-result
 cast-result c = search needs
@@ -24,30 +28,24 @@ cast-result c = search needs
 number-at-requires : tie.Need-number-at-requires
 number-at-requires c κs = search needs
 
--- of one line, the first that is lost is line 0
-first-of-one : (b : Bool) → b ≡ ltb (cond b 0 1) 1
-first-of-one true = refl
-first-of-one false = refl
-
 returns : tie.Need-returns
-unfolding lostOf linesOf
-returns c = rw (c .reverb-lost .ensures, c .before .enum-told .given .1)
+returns c = held.none-lost _ _ (c .before .before .holding-of .ensures) (c .enum-told .given .1) (now (c .before .before .before .before .args .positions))
 
 returns-2 : tie.Need-returns-2
-unfolding lostOf linesOf lostFrom firstFrom
-returns-2 c = rw (c .number-at .ensures, c .before .before .stage .given .1) (first-of-one _)
+returns-2 c = c .reverb-lost .ensures ∙ held.reverb-lost _ _ (c .before .before .before .holding-of .ensures) (c .before .enum-told2 .given .1) (now (c .before .before .before .before .before .args .positions))
 
 returns-3 : tie.Need-returns-3
-unfolding lostOf lostFrom firstFrom
-returns-3 c = let a = c .before .before .args in rw (← line-none (a .rate) (a .stage) (c .match .keys3) .1)
+returns-3 c = ap (leb _) (c .number-at .ensures) ∙ held.frame-lost _ _ (c .before .before .before .before .holding-of .ensures) (c .before .before .lines .given .1) (now (c .before .before .before .before .before .before .args .positions))
 
 pub is-lost-spec : {M : Type 1} → statement M
 is-lost-spec =
     tie.close
     (tie.spec
+    holding-of-requires
     enum-told
+    enum-told-2
     reverb-lost-requires
-    enum-known-stage
+    enum-known-lines
     cast-result
     number-at-requires
     returns

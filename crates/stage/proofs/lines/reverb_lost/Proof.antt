@@ -1,22 +1,28 @@
--- `lines::reverb_lost` meets its contract: it has looked at the lines below j. The measure is 24 - j. Assumes nothing.
+-- `lines::reverb_lost` meets its contract: it has looked at the lines below j. The measure is lineCount - j. Assumes nothing.
 use mathlib.Core.Path.{sym}
-use Prim.Native.Nat.{_-_}
+use mathlib.Core.Bool.{Bool}
+use mathlib.Core.List.{List}
+use Prim.Native.Nat.{ℕ, _-_}
 use native.Mathlib.Omega.{arith}
+use lib.Dec.{leb}
 use lib.ListN.{length, getD}
 use borrow.Author.Needs.{needs}
 use borrow.Author.Tests.{le-leb, lt-leb}
-use Rattle.tuning.specs.Tuning.{reverbLines}
+use Rattle.tuning.specs.Tuning.{lineCount, reverbLines}
 use Rattle.tuning.proofs.Tunings.{lines-length}
-use Rattle.stage.specs.Lines.{offLine, lostFrom}
-use Rattle.stage.proofs.Firsts.{Looked, look-start, look-on, some-hit, some-none}
+use Rattle.rows.proofs.Firsts.{Looked, look-start, look-on, some-hit, some-none}
 use Rattle.stage.proofs.lines.reverb_lost.Statement.{statement}
 use Rattle.stage.proofs.lines.reverb_lost.Tie as tie
 
+-- position j is not on line j
+abbrev off : List ℕ → List ℕ → ℕ → Bool
+off lines positions j = leb (getD lines j 0) (getD positions j 0)
+
 abbrev Inv-loop : tie.InvT-loop
-Inv-loop rate positions j₀ j = Looked (offLine (reverbLines rate) positions) 24 j
+Inv-loop rate positions j₀ j = Looked (off (reverbLines rate) positions) lineCount j
 
 abbrev μ-loop : tie.MeasureT-loop
-μ-loop rate positions j₀ j = 24 - j
+μ-loop rate positions j₀ j = lineCount - j
 
 loop-holds : tie.Need-loop-holds Inv-loop μ-loop
 loop-holds c = look-start
@@ -28,13 +34,12 @@ number-at-requires : tie.Need-number-at-requires Inv-loop μ-loop
 number-at-requires c κs = search needs
 
 returns : tie.Need-returns Inv-loop μ-loop
-unfolding lostFrom
 returns c =
     let a = c .before .before .before .before .before .before .args in
     let j = c .before .before .before .before .loop .j in
     let lines = reverbLines (a .rate) in
     let positions = a .positions .now in
-    sym (some-hit (offLine lines positions) (length lines) j (omega (arith, lines-length (a .rate))) (le-leb (getD lines j 0) (getD positions j 0) (omega (arith, c .before .before .reverb-line .ensures, c .before .number-at .ensures))))
+    sym (some-hit (off lines positions) (length lines) j (omega (arith, lines-length (a .rate))) (le-leb (getD lines j 0) (getD positions j 0) (omega (arith, c .before .before .reverb-line .ensures, c .before .number-at .ensures))))
 
 add-j : tie.Need-add-j Inv-loop μ-loop
 add-j c = search needs
@@ -49,11 +54,10 @@ loop-again c =
     look-on (at .inv) (omega arith) (lt-leb (getD (reverbLines (a .rate)) (at .j) 0) (getD (a .positions .now) (at .j) 0) (omega (arith, c .before .before .reverb-line .ensures, c .before .number-at .ensures)))
 
 returns-2 : tie.Need-returns-2 Inv-loop μ-loop
-unfolding lostFrom
 returns-2 c =
     let a = c .before .before .before .args in
     let lines = reverbLines (a .rate) in
-    sym (some-none (offLine lines (a .positions .now)) (length lines) (λ k h. c .before .loop .inv .clear k (omega (arith, lines-length (a .rate)))))
+    sym (some-none (off lines (a .positions .now)) (length lines) (λ k h. c .before .loop .inv .clear k (omega (arith, lines-length (a .rate)))))
 
 pub reverb-lost-spec : {M : Type 1} → statement M
 reverb-lost-spec =

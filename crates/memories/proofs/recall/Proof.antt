@@ -1,8 +1,8 @@
--- `memory::recall` meets its contract: the two frames are the record. Assumes nothing.
+-- `recall` meets its contract: the two frames are the record. Assumes nothing.
 use borrow.Author.Needs.{needs}
-use Rattle.step.specs.Memory.{remembered}
-use Rattle.step.proofs.memory.recall.Statement.{statement}
-use Rattle.step.proofs.memory.recall.Tie as tie
+use Rattle.memories.specs.Kinds.{remembered}
+use Rattle.memories.proofs.recall.Statement.{statement}
+use Rattle.memories.proofs.recall.Tie as tie
 
 frame-at-requires : tie.Need-frame-at-requires
 frame-at-requires c κs = search needs

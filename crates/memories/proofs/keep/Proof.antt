@@ -1,9 +1,9 @@
--- `memory::keep` meets its contract: the second frame is put where the first is already in place. Assumes nothing.
+-- `keep` meets its contract: the second frame is put where the first is already in place. Assumes nothing.
 use mathlib.Core.Path.{refl}
 use borrow.Author.Needs.{needs}
-use Rattle.step.specs.Memory.{remember}
-use Rattle.step.proofs.memory.keep.Statement.{statement}
-use Rattle.step.proofs.memory.keep.Tie as tie
+use Rattle.memories.specs.Kinds.{remember}
+use Rattle.memories.proofs.keep.Statement.{statement}
+use Rattle.memories.proofs.keep.Tie as tie
 
 put-frame-requires : tie.Need-put-frame-requires
 put-frame-requires c κs = search needs

@@ -1,0 +1,4 @@
+pub mod Sizes
+pub mod Memories
+pub mod Kinds
+pub mod Places

@@ -1,0 +1,50 @@
+// A chain as one value: the rate, and a list of stages, of which the first `count` are used.
+ghost use mathlib.Core.Path.{_≡_};
+ghost use Rattle.stage.specs.Setup.{emptySetup, withStage};
+use crate::kind::Stage;
+use memories::PLACES;
+
+// A list place: a stage with its settings, and what stands beside them.
+pub struct Slot {
+    pub stage: Stage,
+}
+
+pub struct Setup {
+    pub rate: u32,
+    pub count: usize,
+    pub slots: [Slot; PLACES],
+}
+
+// No stage yet, at this rate.
+pub fn empty(rate: u32) -> Setup
+    ensures { λ r. ⌜ r ≡ emptySetup rate ⌝ }
+{
+    let stage = Stage::VolumeControl { volume: 0 };
+    let slot = Slot { stage };
+    Setup {
+        rate,
+        count: 0,
+        slots: [slot; PLACES],
+    }
+}
+
+// One stage more, at the end. Where all places are taken it is counted, so that a call is refused.
+pub fn with(setup: Setup, stage: Stage) -> Setup
+    ensures { λ r. ⌜ r ≡ withStage setup stage ⌝ }
+{
+    let count = setup.count;
+    let mut slots = setup.slots;
+    if count < PLACES {
+        slots[count] = Slot { stage };
+        return Setup {
+            rate: setup.rate,
+            count: count + 1,
+            slots,
+        };
+    }
+    Setup {
+        rate: setup.rate,
+        count: PLACES + 1,
+        slots,
+    }
+}
