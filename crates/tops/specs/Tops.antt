@@ -1,28 +1,32 @@
 -- The top stages, which no stage owns. Definitions only.
 use mathlib.Core.Bool.{cond}
-use mathlib.Core.List.{List}
-use Prim.Native.Nat.{ℕ, zero, suc}
+use Prim.Native.Nat.{ℕ, zero, suc, _+_, min}
 use lib.Dec.{leb}
-use Rattle.stage.specs.declared.kind.Stage.{Stage}
-use Rattle.stage.specs.Kind.{stageAt, nextPlace}
-use Rattle.stage.specs.First.{firstOf}
+use Rattle.rows.specs.First.{firstOf}
+use Rattle.memories.specs.Sizes.{places}
+use Rattle.stage.specs.declared.setup.Setup.{Setup}
+use Rattle.stage.specs.Setup.{stageAt, nextPlace}
 use Rattle.stage.specs.Listed.{listFrom, listOf}
 use Rattle.tops.specs.declared.Tops.{Tops}
 
--- the list place of the kth top stage, of c stages; and c where there is none
-unfoldable pub topAt : List Stage → ℕ → ℕ → ℕ
-topAt l c zero = 0
-topAt l c (suc k) = nextPlace (stageAt l (topAt l c k)) (topAt l c k) c
+-- the list place of the kth top stage; and the count where there is none
+unfoldable pub topAt : Setup → ℕ → ℕ
+topAt setup zero = 0
+topAt setup (suc k) = nextPlace (stageAt setup (topAt setup k)) (topAt setup k) (setup .count)
 
 -- how many there are
-unfoldable pub topsOf : List Stage → ℕ → ℕ
+unfoldable pub topsOf : Setup → ℕ
 unfolding topAt
-topsOf l c = firstOf (λ k. leb c (topAt l c k)) 16
+topsOf setup = firstOf (λ k. leb (setup .count) (topAt setup k)) places
 
 -- what `tops_of` writes at a place: where each top stage stands, then where the last one ends, and 0 beyond
-abbrev pub topOr0 : List Stage → ℕ → ℕ → ℕ
-topOr0 l c k = cond (leb k (topsOf l c)) (topAt l c k) 0
+abbrev pub topOr0 : Setup → ℕ → ℕ
+topOr0 setup k = cond (leb k (topsOf setup)) (topAt setup k) 0
 
-unfoldable pub topsRecord : List Stage → ℕ → Tops
+unfoldable pub topsRecord : Setup → Tops
 unfolding topAt topsOf listFrom
-topsRecord l c = record { places = listOf (topOr0 l c) 17; n = topsOf l c }
+topsRecord setup = record { places = listOf (topOr0 setup) (places + 1); n = topsOf setup }
+
+-- of more stages than there are places, those that have one
+abbrev pub placed : Setup → Setup
+placed setup = record { rate = setup .rate; count = min (setup .count) places; slots = setup .slots }

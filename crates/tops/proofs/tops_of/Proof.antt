@@ -1,43 +1,44 @@
 -- `tops_of` meets its contract. The loop's invariant: `i` is the place of top stage n, of which there are at least n, and the entries up to n are written. The measure is what is left of the stages. Assumes nothing.
 use mathlib.Core.Path.{_≡_, refl, ap, sym, _∙_}
 use mathlib.Core.Logic.{⊎-elim}
-use Prim.Native.Nat.{_-_, _≤_, _<_, min}
+use Prim.Native.Nat.{_+_, _-_, _≤_, _<_}
 use native.Mathlib.Omega.{arith}
 use lib.ListN.{getD-replicate}
 use borrow.Author.Needs.{needs}
-use Rattle.tops.specs.Tops.{topAt, topsOf, topsRecord}
+use Rattle.memories.specs.Sizes.{places}
+use Rattle.stage.specs.Setup.{nextPlace}
+use Rattle.tops.specs.Tops.{topAt, topsOf, placed}
 use Rattle.tops.proofs.TopStages.{top-zero, top-more, tops-more, tops-are, Written, written-more, written-all}
 use Rattle.tops.proofs.tops_of.Statement.{statement}
 use Rattle.tops.proofs.tops_of.Tie as tie
 
 abbrev Inv-loop : tie.InvT-loop
-Inv-loop count stages end places₀ n₀ i₀ places n i =
-    (end ≡ min count 16) × (i ≤ end) × (n ≤ i) × (n ≤ topsOf stages end) × (i ≡ topAt stages end n) × Written stages end n places
+Inv-loop setup count end places₀ n₀ i₀ places n i =
+    (end ≡ placed setup .count) × (i ≤ end) × (n ≤ i) × (n ≤ topsOf (placed setup)) × (i ≡ topAt (placed setup) n) × Written (placed setup) n places
 
 abbrev μ-loop : tie.MeasureT-loop
-μ-loop count stages end places₀ n₀ i₀ places n i = end - i
+μ-loop setup count end places₀ n₀ i₀ places n i = end - i
 
 loop-holds : tie.Need-loop-holds Inv-loop μ-loop
 loop-holds c =
-    let end = c .if1 .end in
-    let l = c .before .args .t1 in (
+    let p = placed (c .before .args .t1) in (
       ⊎-elim (λ w. omega arith) (λ w. omega arith) (c .if1 .came),
       omega arith,
       omega arith,
       omega arith,
-      sym (top-zero l end),
+      sym (top-zero p),
       record {
         full = refl;
-        stands = λ k h. let e : k ≡ 0 = omega arith in rw e (sym (top-zero l end));
-        beyond = λ k h g. getD-replicate 17 k 0 0 h;
+        stands = λ k h. let e : k ≡ 0 = omega arith in rw e (sym (top-zero p));
+        beyond = λ k h g. getD-replicate (places + 1) k 0 0 h;
       },
     )
 
-mul-stage : tie.Need-mul-stage Inv-loop μ-loop
-mul-stage c = search needs
+mul-slot : tie.Need-mul-slot Inv-loop μ-loop
+mul-slot c = search needs
 
-array-copy-out-stage : tie.Need-array-copy-out-stage Inv-loop μ-loop
-array-copy-out-stage c = search needs
+element-copy-out-slot : tie.Need-element-copy-out-slot Inv-loop μ-loop
+element-copy-out-slot c = search needs
 
 next-place-requires : tie.Need-next-place-requires Inv-loop μ-loop
 next-place-requires c κs = search needs
@@ -56,27 +57,25 @@ loop-less c = omega (arith, c .next-place .ensures .2 (omega arith))
 
 loop-again : tie.Need-loop-again Inv-loop μ-loop
 loop-again c =
-    let l = c .before .before .before .before .before .args .t1 in
-    let end = c .before .before .before .before .if1 .end in
+    let p = placed (c .before .before .before .before .before .args .t1) in
     let at = c .before .before .before .loop in
     let here = at .inv .4 in
-    let next = c .next-place .ensures .0 ∙ top-more l end (at .n) (at .i) here in
-    let more : at .n < topsOf l end = tops-more l end (at .n) (omega arith) (at .inv .3) (omega arith) in (
+    let next = c .next-place .ensures .0 ∙ ap (nextPlace _ (at .i)) (at .inv .0) ∙ top-more p (at .n) (at .i) here in
+    let more : at .n < topsOf p = tops-more p (at .n) (omega arith) (at .inv .3) (omega arith) in (
       at .inv .0,
       c .next-place .ensures .1,
       omega (arith, c .next-place .ensures .2 (omega arith)),
       omega arith,
       next,
-      written-more l end (at .n) _ (at .places) (omega arith) (at .inv .5) next,
+      written-more p (at .n) _ (at .places) (omega arith) (at .inv .5) next,
     )
 
 returns : tie.Need-returns Inv-loop μ-loop
 returns c =
-    let l = c .before .before .before .args .t1 in
-    let end = c .before .before .if1 .end in
+    let p = placed (c .before .before .before .args .t1) in
     let at = c .before .loop in
-    let all : at .n ≡ topsOf l end = tops-are l end (at .n) (at .inv .3) (omega arith) in
-    written-all l end (at .n) (at .places) (at .inv .5) all ∙ ap (topsRecord l) (at .inv .0)
+    let all : at .n ≡ topsOf p = tops-are p (at .n) (at .inv .3) (omega arith) in
+    written-all p (at .n) (at .places) (at .inv .5) all
 
 pub tops-of-spec : {M : Type 1} → statement M
 tops-of-spec =
@@ -85,8 +84,8 @@ tops-of-spec =
     Inv-loop
     μ-loop
     loop-holds
-    mul-stage
-    array-copy-out-stage
+    mul-slot
+    element-copy-out-slot
     next-place-requires
     add-n
     mul-places
