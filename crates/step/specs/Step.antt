@@ -21,11 +21,14 @@ use Rattle.line.specs.Held.{holds, joined, Ran, ran}
 use Rattle.line.specs.Position.{nextPosition}
 use Rattle.line.specs.Frames.{frameAt, frameIn}
 use Rattle.reverb.specs.Reverb.{reverbOf}
+use Rattle.memories.specs.Sizes.{places}
+use Rattle.memories.specs.Kinds.{remembered, remember}
+use Rattle.memories.specs.Places.{frontPlaces, backPlaces}
 use Rattle.stage.specs.declared.kind.Stage.{Stage}
 use Rattle.stage.specs.declared.kind.Stage.the-variants.{VolumeControl, PanningControl, Distortion, Filter, EqFilter, Reverb, Delay}
-use Rattle.stage.specs.Kind.{stageAt, nextPlace}
-use Rattle.stage.specs.Layout.{sizeOf, frontPlaces, backPlaces}
-use Rattle.step.specs.Memory.{remembered, remember}
+use Rattle.stage.specs.declared.setup.Setup.{Setup}
+use Rattle.stage.specs.Setup.{stageAt, nextPlace}
+use Rattle.stage.specs.Layout.{sizeOf}
 
 -- ---- a filter or an EQ: f makes a frame of the two that it remembers and of the next one, and the two that it then remembers stay among the floats
 
@@ -63,32 +66,32 @@ stageStep rate inner (Delay frames feedback mix owned) r = delayStage frames fee
 -- ---- stages one after another: f has the front, and g has f's frame and the rest
 
 unfoldable pub inTurn : ℕ → ℕ → (Ran → Ran) → (Ran → Ran) → Ran → Ran
-inTurn lines places f g r =
-    let a = f (ran (r .frame) (frontPlaces lines places (r .held))) in
-    let b = g (ran (a .frame) (backPlaces lines places (r .held))) in
+inTurn lines n f g r =
+    let a = f (ran (r .frame) (frontPlaces lines n (r .held))) in
+    let b = g (ran (a .frame) (backPlaces lines n (r .held))) in
     ran (b .frame) (joined (a .held) (b .held))
 
 -- The stages from i up to e, while there is depth left. `starts` says where lines start, and n is at least how many stages there are.
-unfoldable pub spanOf : ℕ → ℕ → ℕ → List Stage → List ℕ → ℕ → ℕ → Ran → Ran
+unfoldable pub spanOf : ℕ → ℕ → Setup → List ℕ → ℕ → ℕ → Ran → Ran
 unfolding stageStep inTurn
-spanOf zero left rate l starts i e r = r
-spanOf (suc n) zero rate l starts i e r = r
-spanOf (suc n) (suc left) rate l starts i e r =
-    let next = nextPlace (stageAt l i) i e in
+spanOf zero left setup starts i e r = r
+spanOf (suc n) zero setup starts i e r = r
+spanOf (suc n) (suc left) setup starts i e r =
+    let next = nextPlace (stageAt setup i) i e in
     cond (ltb i e)
     (inTurn (sizeOf starts i next) (next - i)
-    (stageStep rate (spanOf n left rate l starts (i + 1) next) (stageAt l i))
-    (spanOf n (suc left) rate l starts next e)
+    (stageStep (setup .rate) (spanOf n left setup starts (i + 1) next) (stageAt setup i))
+    (spanOf n (suc left) setup starts next e)
     r)
     r
 
 -- the stage at i, whose own stages end at e
-unfoldable pub stepOf : ℕ → ℕ → ℕ → List Stage → List ℕ → ℕ → ℕ → Ran → Ran
+unfoldable pub stepOf : ℕ → ℕ → Setup → List ℕ → ℕ → ℕ → Ran → Ran
 unfolding stageStep spanOf
-stepOf n left rate l starts i e r = stageStep rate (spanOf n left rate l starts (i + 1) e) (stageAt l i) r
+stepOf n left setup starts i e r = stageStep (setup .rate) (spanOf n left setup starts (i + 1) e) (stageAt setup i) r
 
--- ---- a step of the stage at a list place, of at most 16 places and with depths down to 3; elsewhere the frame comes back and nothing changes
+-- ---- a step of the stage at a list place, of those that there are and with depths down to 3; elsewhere the frame comes back and nothing changes
 
-unfoldable pub processAt : ℕ → List Stage → List ℕ → ℕ → ℕ → Ran → Ran
+unfoldable pub processAt : Setup → List ℕ → ℕ → ℕ → Ran → Ran
 unfolding stepOf
-processAt rate l starts i e r = cond (ltb i e && leb e 16) (stepOf 16 3 rate l starts i e r) r
+processAt setup starts i e r = cond (ltb i e && leb e places) (stepOf places 3 setup starts i e r) r

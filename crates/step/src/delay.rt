@@ -4,9 +4,8 @@ ghost use mathlib.Core.Path.{_≡_};
 ghost use Prim.Native.Nat.{ℕ, _+_, _-_, _≤_, _<_, min};
 ghost use lib.ListN.{set};
 ghost use Rattle.line.specs.Held.{holds, ran};
+ghost use Rattle.memories.specs.Sizes.{places};
 ghost use Rattle.step.specs.Step.{delayStage, stepOf, spanOf};
-use crate::memory::keep;
-use crate::memory::recall;
 use decibels::amplitude;
 use effect::distortion;
 use effect::panning_control;
@@ -17,10 +16,16 @@ use frame::Frame;
 use line::frames::frame_at;
 use line::frames::put_frame;
 use line::position::next_position;
+use memories::FLOATS;
+use memories::POSITIONS;
+use memories::keep;
+use memories::recall;
 use stage::kind::Stage;
+use stage::layout::ENDS;
 use stage::layout::next_place;
 use stage::layout::number_at;
 use stage::layout::size_between;
+use stage::setup::Setup;
 
 fn lesser(a: usize, b: usize) -> usize
     ensures { λ r. ⌜ r ≡ min a b ⌝ }
@@ -38,9 +43,8 @@ fn put_first(positions: &mut [usize], at: usize)
 
 // The delay at the head of its stretch; its own stages are those from i + 1 up to e.
 fn delay_stage(
-    rate: u32,
-    stages: [Stage; 16],
-    starts: &[usize; 17],
+    setup: Setup,
+    starts: &[usize; ENDS],
     i: usize,
     e: usize,
     left: usize,
@@ -52,19 +56,18 @@ fn delay_stage(
     positions: &mut [usize],
     floats: &mut [f32],
 ) -> Frame
-    requires { ⌜ (i < e) × (e ≤ 16) ⌝ }
+    requires { ⌜ (i < e) × (e ≤ places) ⌝ }
     ensures { λ r. ⌜ ((n : ℕ) → e - (i + 1) ≤ n → ran r (holds (now (store .exit)) (now (positions .exit)) (now (floats .exit)))
-        ≡ delayStage frames feedback mix (spanOf n left rate stages (now (starts .entry)) (i + 1) e) (ran x (holds (now (store .entry)) (now (positions .entry)) (now (floats .entry))))) ⌝ }
+        ≡ delayStage frames feedback mix (spanOf n left setup (now (starts .entry)) (i + 1) e) (ran x (holds (now (store .entry)) (now (positions .entry)) (now (floats .entry))))) ⌝ }
 {
     let length = frames as usize;
     let n = lesser(2 * length, store.len());
-    let p = lesser(24, positions.len());
-    let f = lesser(20, floats.len());
+    let p = lesser(POSITIONS, positions.len());
+    let f = lesser(FLOATS, floats.len());
     let at = number_at(positions, 0);
     let oldest = frame_at(&store[..n], at);
     let fed = span(
-        rate,
-        stages,
+        setup,
         starts,
         i + 1,
         e,
@@ -82,9 +85,8 @@ fn delay_stage(
 
 // The stage at i, whose own stages end at e.
 pub(crate) fn step(
-    rate: u32,
-    stages: [Stage; 16],
-    starts: &[usize; 17],
+    setup: Setup,
+    starts: &[usize; ENDS],
     i: usize,
     e: usize,
     left: usize,
@@ -93,11 +95,12 @@ pub(crate) fn step(
     positions: &mut [usize],
     floats: &mut [f32],
 ) -> Frame
-    requires { ⌜ (i < e) × (e ≤ 16) ⌝ }
+    requires { ⌜ (i < e) × (e ≤ places) ⌝ }
     ensures { λ r. ⌜ ((n : ℕ) → e - (i + 1) ≤ n → ran r (holds (now (store .exit)) (now (positions .exit)) (now (floats .exit)))
-        ≡ stepOf n left rate stages (now (starts .entry)) i e (ran x (holds (now (store .entry)) (now (positions .entry)) (now (floats .entry))))) ⌝ }
+        ≡ stepOf n left setup (now (starts .entry)) i e (ran x (holds (now (store .entry)) (now (positions .entry)) (now (floats .entry))))) ⌝ }
 {
-    let stage = stages[i];
+    let slot = setup.slots[i];
+    let stage = slot.stage;
     match stage {
         Stage::VolumeControl { volume } => volume_control::process(x, volume),
         Stage::PanningControl { panning } => panning_control::process(x, panning),
@@ -122,7 +125,7 @@ pub(crate) fn step(
             mix,
         } => reverb::process(
             x,
-            rate,
+            setup.rate,
             feedback,
             damping,
             stereo_width,
@@ -137,8 +140,7 @@ pub(crate) fn step(
             mix,
             owned: _,
         } => delay_stage(
-            rate,
-            stages,
+            setup,
             starts,
             i,
             e,
@@ -156,9 +158,8 @@ pub(crate) fn step(
 
 // The stages from i up to e, each on its own stretch, while there is depth left.
 fn span(
-    rate: u32,
-    stages: [Stage; 16],
-    starts: &[usize; 17],
+    setup: Setup,
+    starts: &[usize; ENDS],
     i: usize,
     e: usize,
     left: usize,
@@ -167,9 +168,9 @@ fn span(
     positions: &mut [usize],
     floats: &mut [f32],
 ) -> Frame
-    requires { ⌜ (i ≤ e) × (e ≤ 16) ⌝ }
+    requires { ⌜ (i ≤ e) × (e ≤ places) ⌝ }
     ensures { λ r. ⌜ ((n : ℕ) → e - i ≤ n → ran r (holds (now (store .exit)) (now (positions .exit)) (now (floats .exit)))
-        ≡ spanOf n left rate stages (now (starts .entry)) i e (ran x (holds (now (store .entry)) (now (positions .entry)) (now (floats .entry))))) ⌝ }
+        ≡ spanOf n left setup (now (starts .entry)) i e (ran x (holds (now (store .entry)) (now (positions .entry)) (now (floats .entry))))) ⌝ }
 {
     if left == 0 {
         return x;
@@ -177,14 +178,14 @@ fn span(
     if i >= e {
         return x;
     }
-    let stage = stages[i];
+    let slot = setup.slots[i];
+    let stage = slot.stage;
     let next = next_place(stage, i, e);
     let n = lesser(size_between(starts, i, next), store.len());
-    let p = lesser(24 * (next - i), positions.len());
-    let f = lesser(20 * (next - i), floats.len());
+    let p = lesser(POSITIONS * (next - i), positions.len());
+    let f = lesser(FLOATS * (next - i), floats.len());
     let y = step(
-        rate,
-        stages,
+        setup,
         starts,
         i,
         next,
@@ -195,8 +196,7 @@ fn span(
         &mut floats[..f],
     );
     span(
-        rate,
-        stages,
+        setup,
         starts,
         next,
         e,

@@ -4,15 +4,16 @@ ghost use Rattle.line.specs.Held.{holds, ran};
 ghost use Rattle.step.specs.Step.{processAt};
 use crate::delay::step;
 use frame::Frame;
-use stage::kind::Stage;
+use memories::PLACES;
+use stage::layout::ENDS;
+use stage::setup::Setup;
 
 // The frame x through the stage at place i, whose own stages end at place e, with their stretch of
 // the store, the positions and the floats. `starts` says where lines start (layout::starts_of).
 // Where i is not before e, or e is past the list, the frame comes back and nothing changes.
 pub fn process(
-    rate: u32,
-    stages: [Stage; 16],
-    starts: &[usize; 17],
+    setup: Setup,
+    starts: &[usize; ENDS],
     i: usize,
     e: usize,
     x: Frame,
@@ -21,13 +22,13 @@ pub fn process(
     floats: &mut [f32],
 ) -> Frame
     ensures { λ r. ⌜ ran r (holds (now (store .exit)) (now (positions .exit)) (now (floats .exit)))
-        ≡ processAt rate stages (now (starts .entry)) i e (ran x (holds (now (store .entry)) (now (positions .entry)) (now (floats .entry)))) ⌝ }
+        ≡ processAt setup (now (starts .entry)) i e (ran x (holds (now (store .entry)) (now (positions .entry)) (now (floats .entry)))) ⌝ }
 {
     if i >= e {
         return x;
     }
-    if e > 16 {
+    if e > PLACES {
         return x;
     }
-    step(rate, stages, starts, i, e, 3, x, store, positions, floats)
+    step(setup, starts, i, e, 3, x, store, positions, floats)
 }
