@@ -31,6 +31,9 @@ is-lost-single κs a r r' s s' p q = p ∙ sym q
 pub in-range-single : Single range.in_range.Reads.Post
 in-range-single κs a r r' s s' p q = p ∙ sym q
 
+pub used-single : Single setup.used.Reads.Post
+used-single κs a r r' s s' p q = p ∙ sym q
+
 pub empty-single : Single setup.empty.Reads.Post
 empty-single κs a r r' s s' p q = p ∙ sym q
 

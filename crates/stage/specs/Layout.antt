@@ -4,7 +4,7 @@ use Prim.Native.Nat.{ℕ, zero, suc, _+_, _-_}
 use lib.ListN.{getD}
 use Rattle.memories.specs.Sizes.{places}
 use Rattle.stage.specs.declared.setup.Setup.{Setup}
-use Rattle.stage.specs.Setup.{stageAt}
+use Rattle.stage.specs.Setup.{stageAt, usedOf}
 use Rattle.stage.specs.Lines.{floatsOf}
 use Rattle.stage.specs.Listed.{listFrom, listOf}
 
@@ -24,4 +24,4 @@ sizeOf starts i e = getD starts e 0 - getD starts i 0
 
 -- "needed floats are the sum of all lines": where the lines of the last stage end
 abbrev pub neededOf : Setup → ℕ
-neededOf setup = getD (startsOf setup) (setup .count) 0
+neededOf setup = startOf setup (usedOf setup)

@@ -1,6 +1,6 @@
 -- A chain as one value: a rate, and a list of stages of which the first `count` are used. Definitions only.
 use mathlib.Core.Bool.{cond}
-use Prim.Native.Nat.{ℕ, _+_, _-_}
+use Prim.Native.Nat.{ℕ, _+_, _-_, min}
 use lib.Dec.{ltb}
 use lib.IntN.{pos}
 use lib.ListN.{getD, set, replicate}
@@ -18,6 +18,10 @@ unused = record { stage = VolumeControl (pos 0) }
 -- the stage at a list place; past the list's end it does not matter
 abbrev pub stageAt : Setup → ℕ → Stage
 stageAt setup i = getD (setup .slots) i unused .stage
+
+-- how many places are used: a list of more stages than that is refused
+abbrev pub usedOf : Setup → ℕ
+usedOf setup = min (setup .count) places
 
 -- no stage, at this rate
 unfoldable pub emptySetup : ℕ → Setup

@@ -1,5 +1,7 @@
 // A chain as one value: the rate, and a list of stages, of which the first `count` are used.
 ghost use mathlib.Core.Path.{_≡_};
+ghost use Prim.Native.Nat.{min};
+ghost use Rattle.memories.specs.Sizes.{places};
 ghost use Rattle.stage.specs.Setup.{emptySetup, withStage};
 use crate::kind::Stage;
 use memories::PLACES;
@@ -13,6 +15,13 @@ pub struct Setup {
     pub rate: u32,
     pub count: usize,
     pub slots: [Slot; PLACES],
+}
+
+// How many places a list of so many stages uses.
+pub fn used(count: usize) -> usize
+    ensures { λ r. ⌜ r ≡ min count places ⌝ }
+{
+    if count < PLACES { count } else { PLACES }
 }
 
 // No stage yet, at this rate.

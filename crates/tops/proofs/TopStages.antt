@@ -2,7 +2,7 @@
 use mathlib.Core.Path.{_≡_, refl, ap, sym, _∙_}
 use mathlib.Core.Bool.{Bool}
 use mathlib.Core.List.{List}
-use Prim.Native.Nat.{ℕ, zero, suc, _+_, _≤_, _<_, min}
+use Prim.Native.Nat.{ℕ, zero, suc, _+_, _≤_, _<_}
 use native.Mathlib.Omega.{arith}
 use native.Mathlib.Numerals.{add-one}
 use native.Mathlib.Decide.{ℕ-discrete, decLt}
@@ -12,17 +12,17 @@ use lib.Seq.{getD-set-other}
 use borrow.Author.Tests.{leb-true, leb-false, le-leb, lt-leb}
 use Rattle.memories.specs.Sizes.{places}
 use Rattle.stage.specs.declared.setup.Setup.{Setup}
-use Rattle.stage.specs.Setup.{stageAt, nextPlace}
+use Rattle.stage.specs.Setup.{stageAt, usedOf, nextPlace}
 use Rattle.stage.specs.Listed.{listOf}
 use Rattle.rows.proofs.Firsts.{first-le, first-so, first-clear}
 use Rattle.stage.proofs.Listed.{listed-at, listed-all, listed-more}
 use Rattle.stage.proofs.Next.{next-le, next-more, next-outside}
 use Rattle.tops.specs.declared.Tops.{Tops}
-use Rattle.tops.specs.Tops.{topAt, topsOf, topOr0, topsRecord, placed}
+use Rattle.tops.specs.Tops.{topAt, topsOf, topOr0, topsRecord}
 
 module _ (setup : Setup) where
   abbrev c : ℕ
-  c = setup .count
+  c = usedOf setup
 
   -- ---- the places
   pub top-zero : topAt setup 0 ≡ 0
@@ -135,18 +135,11 @@ module _ (setup : Setup) where
       at k h (yes q) = w .beyond k h q ∙ rw (lt-leb k (topsOf setup) (omega arith))
       at k h (no q) = w .stands k (omega arith) ∙ rw (le-leb k (topsOf setup) (omega arith))
 
--- ---- where every stage has a place, what `tops_of` finds
-module _ (setup : Setup) (h : setup .count ≤ places) where
-  pub all-placed : placed setup ≡ setup
-  all-placed = let m : min (setup .count) places ≡ setup .count = omega arith in λ i. record { rate = setup .rate; count = m i; slots = setup .slots }
+-- ---- what `tops_of` finds
+module _ (setup : Setup) {t : Tops} (e : t ≡ topsRecord setup) where
+  pub tops-found : t .n ≡ topsOf setup
+  unfolding topsRecord
+  tops-found = ap (λ (t : Tops). t .n) e
 
-  module _ {t : Tops} (e : t ≡ topsRecord (placed setup)) where
-    all : t ≡ topsRecord setup
-    all = e ∙ ap topsRecord all-placed
-
-    pub tops-found : t .n ≡ topsOf setup
-    unfolding topsRecord
-    tops-found = ap (λ (t : Tops). t .n) all
-
-    pub places-found : t .places ≡ topsRecord setup .places
-    places-found = ap (λ (t : Tops). t .places) all
+  pub places-found : t .places ≡ topsRecord setup .places
+  places-found = ap (λ (t : Tops). t .places) e

@@ -1,10 +1,10 @@
 // The top stages, which no stage owns: where they stand in the list.
 ghost use mathlib.Core.Path.{_≡_};
-ghost use Rattle.tops.specs.Tops.{placed, topsRecord};
-use memories::PLACES;
+ghost use Rattle.tops.specs.Tops.{topsRecord};
 use stage::layout::ENDS;
 use stage::layout::next_place;
 use stage::setup::Setup;
+use stage::setup::used;
 
 pub struct Tops {
     // the list place of each top stage, then where the last one ends; 0 beyond
@@ -12,12 +12,11 @@ pub struct Tops {
     pub n: usize,
 }
 
-// Of the stages that have a place.
+// Of the places that are used.
 pub fn tops_of(setup: Setup) -> Tops
-    ensures { λ r. ⌜ r ≡ topsRecord (placed setup) ⌝ }
+    ensures { λ r. ⌜ r ≡ topsRecord setup ⌝ }
 {
-    let count = setup.count;
-    let end = if count < PLACES { count } else { PLACES };
+    let end = used(setup.count);
     let mut places = [0; ENDS];
     let mut n = 0;
     let mut i = 0;

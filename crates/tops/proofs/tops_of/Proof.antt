@@ -1,28 +1,27 @@
--- `tops_of` meets its contract. The loop's invariant: `i` is the place of top stage n, of which there are at least n, and the entries up to n are written. The measure is what is left of the stages. Assumes nothing.
+-- `tops_of` meets its contract. The loop's invariant: `i` is the place of top stage n, of which there are at least n, and the entries up to n are written. The measure is what is left of the places. Assumes nothing.
 use mathlib.Core.Path.{_≡_, refl, ap, sym, _∙_}
-use mathlib.Core.Logic.{⊎-elim}
 use Prim.Native.Nat.{_+_, _-_, _≤_, _<_}
 use native.Mathlib.Omega.{arith}
 use lib.ListN.{getD-replicate}
 use borrow.Author.Needs.{needs}
 use Rattle.memories.specs.Sizes.{places}
-use Rattle.stage.specs.Setup.{nextPlace}
-use Rattle.tops.specs.Tops.{topAt, topsOf, placed}
+use Rattle.stage.specs.Setup.{usedOf, nextPlace}
+use Rattle.tops.specs.Tops.{topAt, topsOf}
 use Rattle.tops.proofs.TopStages.{top-zero, top-more, tops-more, tops-are, Written, written-more, written-all}
 use Rattle.tops.proofs.tops_of.Statement.{statement}
 use Rattle.tops.proofs.tops_of.Tie as tie
 
 abbrev Inv-loop : tie.InvT-loop
-Inv-loop setup count end places₀ n₀ i₀ places n i =
-    (end ≡ placed setup .count) × (i ≤ end) × (n ≤ i) × (n ≤ topsOf (placed setup)) × (i ≡ topAt (placed setup) n) × Written (placed setup) n places
+Inv-loop setup end places₀ n₀ i₀ places n i =
+    (end ≡ usedOf setup) × (i ≤ end) × (n ≤ i) × (n ≤ topsOf setup) × (i ≡ topAt setup n) × Written setup n places
 
 abbrev μ-loop : tie.MeasureT-loop
-μ-loop setup count end places₀ n₀ i₀ places n i = end - i
+μ-loop setup end places₀ n₀ i₀ places n i = end - i
 
 loop-holds : tie.Need-loop-holds Inv-loop μ-loop
 loop-holds c =
-    let p = placed (c .before .args .t1) in (
-      ⊎-elim (λ w. omega arith) (λ w. omega arith) (c .if1 .came),
+    let p = c .before .args .t1 in (
+      c .used .ensures,
       omega arith,
       omega arith,
       omega arith,
@@ -33,6 +32,9 @@ loop-holds c =
         beyond = λ k h g. getD-replicate (places + 1) k 0 0 h;
       },
     )
+
+used-requires : tie.Need-used-requires Inv-loop μ-loop
+used-requires c κs = search needs
 
 mul-slot : tie.Need-mul-slot Inv-loop μ-loop
 mul-slot c = search needs
@@ -57,7 +59,7 @@ loop-less c = omega (arith, c .next-place .ensures .2 (omega arith))
 
 loop-again : tie.Need-loop-again Inv-loop μ-loop
 loop-again c =
-    let p = placed (c .before .before .before .before .before .args .t1) in
+    let p = c .before .before .before .before .before .args .t1 in
     let at = c .before .before .before .loop in
     let here = at .inv .4 in
     let next = c .next-place .ensures .0 ∙ ap (nextPlace _ (at .i)) (at .inv .0) ∙ top-more p (at .n) (at .i) here in
@@ -72,7 +74,7 @@ loop-again c =
 
 returns : tie.Need-returns Inv-loop μ-loop
 returns c =
-    let p = placed (c .before .before .before .args .t1) in
+    let p = c .before .before .before .args .t1 in
     let at = c .before .loop in
     let all : at .n ≡ topsOf p = tops-are p (at .n) (at .inv .3) (omega arith) in
     written-all p (at .n) (at .places) (at .inv .5) all
@@ -83,6 +85,7 @@ tops-of-spec =
     (tie.spec
     Inv-loop
     μ-loop
+    used-requires
     loop-holds
     mul-slot
     element-copy-out-slot
