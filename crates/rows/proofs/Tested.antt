@@ -2,7 +2,7 @@
 use mathlib.Core.Path.{_≡_}
 use mathlib.Core.Bool.{true, false}
 use mathlib.Core.List.{List, [], _∷_}
-use Rattle.rows.specs.Rows.{Row, firstRow}
+use Rattle.rows.specs.Rows.{Row, applies, placeIn, firstRow}
 
 -- these rows, with `other` where none applies, give this answer
 pub record Gives {A : Type 0} (rs : List (Row A)) (other answer : A) : Type 0 where
@@ -10,11 +10,11 @@ pub record Gives {A : Type 0} (rs : List (Row A)) (other answer : A) : Type 0 wh
 
 module _ {A : Type 0} {other answer : A} where
   module _ {r : Row A} {rs : List (Row A)} (g : Gives (r ∷ rs) other answer) where
-    pub row-hit : r .applies ≡ true → r .answer ≡ answer
+    pub row-hit : applies (r .when) ≡ true → r .answer (placeIn (r .when)) ≡ answer
     unfolding firstRow
     row-hit e = rw e at (g .same)
 
-    pub row-pass : r .applies ≡ false → Gives rs other answer
+    pub row-pass : applies (r .when) ≡ false → Gives rs other answer
     unfolding firstRow
     row-pass e = record { same = rw e at (g .same) }
 

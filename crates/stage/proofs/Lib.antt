@@ -1,5 +1,4 @@
 pub mod Unnamed
-pub mod Firsts
 pub mod Listed
 pub mod FewLines
 pub mod Starts

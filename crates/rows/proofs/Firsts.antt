@@ -6,7 +6,7 @@ use native.Mathlib.Omega.{arith}
 use native.Mathlib.Decide.{ℕ-discrete, decLt}
 use borrow.Author.Count.{below-more}
 use borrow.Author.Tests.{ltb-true, ltb-false, lt-ltb, le-ltb}
-use Rattle.stage.specs.First.{firstFrom, firstOf, some}
+use Rattle.rows.specs.First.{firstFrom, firstOf, some}
 
 module _ (t : ℕ → Bool) where
   -- ---- from any number on
