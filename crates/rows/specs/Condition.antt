@@ -19,6 +19,11 @@ pub data Condition : Type 0 where
   both : Condition → Condition → Condition
   among : ℕ → (ℕ → Condition) → Condition
 
+infixl 20 _or_
+-- one or the other, or a third ..
+abbrev pub _or_ : Condition → Condition → Condition
+c or d = either c d
+
 -- in plain logic
 abbrev pub Holds : Condition → Type 0
 Holds (less a b) = a < b
