@@ -1,5 +1,6 @@
 -- `read` meets its contract: it tests the table row by row, and at each return the rows before it are past. Assumes nothing.
-use mathlib.Core.Path.{refl, sym, _∙_}
+use mathlib.Core.Path.{refl, ap, sym, _∙_}
+use mathlib.Core.Bool.{not}
 use Prim.Native.Nat.{ℕ}
 use borrow.Author.Tests.{lt-ltb, le-ltb, eq-eqb, ne-eqb}
 use borrow.Author.Needs.{needs}
@@ -58,10 +59,10 @@ four-at-requires-2 : tie.Need-four-at-requires-2
 four-at-requires-2 c κs = search needs
 
 returns-5 : tie.Need-returns-5
-returns-5 c = row-hit (past-rate (c .before .before)) (rw (← c .before .four-at2 .ensures, ne-eqb _ _ (c .if5 .taken)))
+returns-5 c = row-hit (past-rate (c .before .before)) (rw (← c .before .four-at2 .ensures) (ap not (ne-eqb _ _ (c .if5 .taken))))
 
 returns-6 : tie.Need-returns-6
-returns-6 c = rw (c .before .before .before .before .four-at .ensures, c .before .four-at2 .ensures) (row-none (row-pass (past-rate (c .before .before)) (rw (← c .before .four-at2 .ensures, eq-eqb _ _ (c .if5 .left)))))
+returns-6 c = rw (c .before .before .before .before .four-at .ensures, c .before .four-at2 .ensures) (row-none (row-pass (past-rate (c .before .before)) (rw (← c .before .four-at2 .ensures) (ap not (eq-eqb _ _ (c .if5 .left))))))
 
 pub read-spec : {M : Type 1} → statement M
 read-spec =
