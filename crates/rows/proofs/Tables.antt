@@ -55,8 +55,8 @@ module _ {A : Type 0} where
     pub first-refused : (xs ys : List (Row A)) → 0 < numberOf (firstRow xs other) → firstRow (xs ++ ys) other ≡ firstRow xs other
     first-refused xs ys g = let h = some xs g in first-given other xs ys (h .0) (h .1) (h .2)
 
-  -- ---- rows whose answers have their numbers and places
   module _ (numberOf placeOf : A → ℕ) where
+    -- ---- each row's number is above 0, and its answer, at the place with which it applies, has that number and that place
     abbrev pub Numbered : List (Row A) → Type 0
     Numbered [] = Unit {0}
     Numbered (r ∷ rs) = let answer = r .answer (placeIn (r .when)) in ((0 < r .number) × (numberOf answer ≡ r .number) × (placeOf answer ≡ placeIn (r .when))) × Numbered rs

@@ -19,8 +19,8 @@ pub data Condition : Type 0 where
   both : Condition → Condition → Condition
   among : ℕ → (ℕ → Condition) → Condition
 
+-- the same as `either`, between the two
 infixl 20 _or_
--- one or the other, or a third ..
 abbrev pub _or_ : Condition → Condition → Condition
 c or d = either c d
 

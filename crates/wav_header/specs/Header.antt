@@ -1,4 +1,5 @@
--- The header of a WAV file and document 01's answers to it: a table of rows, of which the first that applies decides. Definitions only.
+-- The header of a WAV file and document 01's answers to it: a table of rows, of which the first that applies decides.
+-- Definitions only.
 use Prim.Native.Nat.{ℕ, _+_, _*_, _%_}
 use mathlib.Core.List.{List, [], _∷_}
 use lib.ListN.{length}
@@ -71,7 +72,7 @@ rateWrong rate most = less rate 8000 or less 192000 rate or less most rate
 abbrev pub sizeWrong : List ℕ → Condition
 sizeWrong bytes = differ (fourAt bytes (plain .size) % 4) 0
 
--- ---- the table: the first that applies, in this order, is the answer
+-- ---- the table: the first row that applies, in this order, gives the answer; a header has no places
 abbrev pub headerRows : List ℕ → ℕ → List (Row Header)
 headerRows bytes most =
     row 25 (given 0 (less (length bytes) (plain .length))) (λ p. Short)
@@ -85,9 +86,12 @@ headerRows bytes most =
 abbrev pub readOf : List ℕ → Header
 readOf bytes = Read (fourAt bytes (plain .rate)) (fourAt bytes (plain .size))
 
+-- the answer
 unfoldable pub headerOf : List ℕ → ℕ → Header
 headerOf bytes most = firstRow (headerRows bytes most) (readOf bytes)
 
--- the answer is the table's, in plain logic: the first row that applies is given, exactly
+-- the table in plain logic: the first row that applies is given, exactly, and no other
 abbrev pub HeaderTabled : Type 0
-HeaderTabled = (bytes : List ℕ) (most : ℕ) → ByTheTable headerNumber (λ h. 0) (headerRows bytes most) (readOf bytes) (headerOf bytes most)
+HeaderTabled =
+    (bytes : List ℕ) (most : ℕ)
+    → ByTheTable headerNumber (λ h. 0) (headerRows bytes most) (readOf bytes) (headerOf bytes most)
