@@ -19,6 +19,11 @@ pub data Condition : Type 0 where
   both : Condition → Condition → Condition
   among : ℕ → (ℕ → Condition) → Condition
 
+-- the same as `either`, between the two
+infixl 20 _or_
+abbrev pub _or_ : Condition → Condition → Condition
+c or d = either c d
+
 -- in plain logic
 abbrev pub Holds : Condition → Type 0
 Holds (less a b) = a < b

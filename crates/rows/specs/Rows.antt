@@ -47,7 +47,7 @@ module _ {A : Type 0} where
   Given [] n p = ⊥
   Given (r ∷ rs) n p = ((r .number ≡ n) × AppliesAt (r .when) p) ⊎ (Never (r .when) × Given rs n p)
 
-  -- the answer is the table's, and the one that is given where no row applies is `other`: an answer's number is 0 where it is no refusal
+  -- the answer is the table's, and `other` where no row applies: an answer's number is 0 where it is no refusal
   pub record ByTheTable (numberOf placeOf : A → ℕ) (rows : List (Row A)) (other answer : A) : Type 0 where
     pub accepted : NoRow rows → answer ≡ other
     pub clear : numberOf answer ≡ 0 → NoRow rows

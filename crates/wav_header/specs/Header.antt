@@ -1,10 +1,10 @@
--- The header of a WAV file and document 01's answers to it: a table of rows, of which the first that applies decides. Definitions only.
+-- The header of a WAV file and document 01's answers to it: a table of rows, of which the first that applies decides.
+-- Definitions only.
 use Prim.Native.Nat.{ℕ, _+_, _*_, _%_}
-use mathlib.Core.Bool.{Bool, not, _&&_, _||_}
 use mathlib.Core.List.{List, [], _∷_}
-use lib.Dec.{ltb, eqb}
 use lib.ListN.{length}
-use Rattle.rows.specs.Rows.{Row, row, firstRow}
+use Rattle.rows.specs.Condition.{Condition, less, differ, _or_}
+use Rattle.rows.specs.Rows.{Row, row, given, firstRow, ByTheTable}
 use Rattle.wav_header.specs.declared.Header.{Header}
 use Rattle.wav_header.specs.declared.Header.the-variants.{Read, Names, Format, Rate, Size, Short}
 use Rattle.wav_bytes.specs.Bytes.{twoAt, fourAt}
@@ -43,42 +43,55 @@ plain = record { riff = 0; riffSize = 4; wave = 8; fmt = 12; fmtSize = 16; tag =
 abbrev pub named : ℕ → ℕ → ℕ → ℕ → ℕ
 named a b c d = a + 256 * b + 65536 * (c + 256 * d)
 
--- ---- what the rows ask
+-- ---- the conditions, in document 01's words
 
--- "RIFF", "WAVE", "fmt " and "data" stand in their places, fmt has 16 bytes, and RIFF 36 more than the data
-unfoldable pub namesRight : List ℕ → Bool
-namesRight bytes =
-    eqb (fourAt bytes (plain .riff)) (named 82 73 70 70)
-    && eqb (fourAt bytes (plain .wave)) (named 87 65 86 69)
-    && eqb (fourAt bytes (plain .fmt)) (named 102 109 116 32)
-    && eqb (fourAt bytes (plain .dataName)) (named 100 97 116 97)
-    && eqb (fourAt bytes (plain .fmtSize)) 16
-    && eqb (fourAt bytes (plain .riffSize)) (fourAt bytes (plain .size) + 36)
+-- "wrong chunk names, fmt size not 16, or RIFF size not data size + 36"
+abbrev pub namesWrong : List ℕ → Condition
+namesWrong bytes =
+    differ (fourAt bytes (plain .riff)) (named 82 73 70 70)
+    or differ (fourAt bytes (plain .wave)) (named 87 65 86 69)
+    or differ (fourAt bytes (plain .fmt)) (named 102 109 116 32)
+    or differ (fourAt bytes (plain .dataName)) (named 100 97 116 97)
+    or differ (fourAt bytes (plain .fmtSize)) 16
+    or differ (fourAt bytes (plain .riffSize)) (fourAt bytes (plain .size) + 36)
 
--- tag 1 (PCM), two channels, 16 bits, 4 bytes a frame, four times the rate in bytes a second
-unfoldable pub formatRight : List ℕ → Bool
-formatRight bytes =
-    eqb (twoAt bytes (plain .tag)) 1
-    && eqb (twoAt bytes (plain .channels)) 2
-    && eqb (twoAt bytes (plain .bits)) 16
-    && eqb (twoAt bytes (plain .block)) 4
-    && eqb (fourAt bytes (plain .byteRate)) (4 * fourAt bytes (plain .rate))
+-- "not tag 1, two channels, 16 bits, block 4, byte rate 4R"
+abbrev pub formatWrong : List ℕ → Condition
+formatWrong bytes =
+    differ (twoAt bytes (plain .tag)) 1
+    or differ (twoAt bytes (plain .channels)) 2
+    or differ (twoAt bytes (plain .bits)) 16
+    or differ (twoAt bytes (plain .block)) 4
+    or differ (fourAt bytes (plain .byteRate)) (4 * fourAt bytes (plain .rate))
 
--- from 8,000 to 192,000, and at most what the program takes
-unfoldable pub rateRight : ℕ → ℕ → Bool
-rateRight most rate = not (ltb rate 8000 || ltb 192000 rate || ltb most rate)
+-- "rate out of range": below 8,000, above 192,000, or above what the program takes
+abbrev pub rateWrong : ℕ → ℕ → Condition
+rateWrong rate most = less rate 8000 or less 192000 rate or less most rate
 
--- ---- the table
+-- "data size not a multiple of 4"
+abbrev pub sizeWrong : List ℕ → Condition
+sizeWrong bytes = differ (fourAt bytes (plain .size) % 4) 0
+
+-- ---- the table: the first row that applies, in this order, gives the answer; a header has no places
 abbrev pub headerRows : List ℕ → ℕ → List (Row Header)
 headerRows bytes most =
-    row (ltb (length bytes) (plain .length)) Short
-    ∷ row (not (namesRight bytes)) Names
-    ∷ row (not (formatRight bytes)) Format
-    ∷ row (not (rateRight most (fourAt bytes (plain .rate)))) Rate
-    ∷ row (not (eqb (fourAt bytes (plain .size) % 4) 0)) Size
+    row 25 (given 0 (less (length bytes) (plain .length))) (λ p. Short)
+    ∷ row 21 (given 0 (namesWrong bytes)) (λ p. Names)
+    ∷ row 22 (given 0 (formatWrong bytes)) (λ p. Format)
+    ∷ row 23 (given 0 (rateWrong (fourAt bytes (plain .rate)) most)) (λ p. Rate)
+    ∷ row 24 (given 0 (sizeWrong bytes)) (λ p. Size)
     ∷ []
 
 -- what is read where no row applies
+abbrev pub readOf : List ℕ → Header
+readOf bytes = Read (fourAt bytes (plain .rate)) (fourAt bytes (plain .size))
+
+-- the answer
 unfoldable pub headerOf : List ℕ → ℕ → Header
-unfolding firstRow
-headerOf bytes most = firstRow (headerRows bytes most) (Read (fourAt bytes (plain .rate)) (fourAt bytes (plain .size)))
+headerOf bytes most = firstRow (headerRows bytes most) (readOf bytes)
+
+-- the table in plain logic: the first row that applies is given, exactly, and no other
+abbrev pub HeaderTabled : Type 0
+HeaderTabled =
+    (bytes : List ℕ) (most : ℕ)
+    → ByTheTable headerNumber (λ h. 0) (headerRows bytes most) (readOf bytes) (headerOf bytes most)

@@ -1,7 +1,8 @@
 // The 44-byte header of a WAV file: what it says, or document 01's refusal of it. Nothing here has a
 // `requires`.
 ghost use mathlib.Core.Path.{_≡_};
-ghost use Rattle.wav_header.specs.Header.{headerNumber, namesRight, formatRight, rateRight, headerOf};
+ghost use Rattle.rows.specs.Condition.{decide};
+ghost use Rattle.wav_header.specs.Header.{headerNumber, namesWrong, formatWrong, rateWrong, headerOf};
 use wav_bytes::four_at;
 use wav_bytes::two_at;
 
@@ -43,55 +44,31 @@ pub fn number(header: Header) -> u32
     }
 }
 
-fn names_right(bytes: &[u8]) -> bool
-    ensures { λ r. ⌜ r ≡ namesRight (now (bytes .entry)) ⌝ }
+fn names_wrong(bytes: &[u8]) -> bool
+    ensures { λ r. ⌜ r ≡ decide (namesWrong (now (bytes .entry))) ⌝ }
 {
-    if four_at(bytes, 0) != RIFF {
-        return false;
-    }
-    if four_at(bytes, 8) != WAVE {
-        return false;
-    }
-    if four_at(bytes, 12) != FMT {
-        return false;
-    }
-    if four_at(bytes, 36) != DATA {
-        return false;
-    }
-    if four_at(bytes, 16) != 16 {
-        return false;
-    }
-    four_at(bytes, 4) as u64 == four_at(bytes, 40) as u64 + 36
+    (four_at(bytes, 0) != RIFF)
+        | (four_at(bytes, 8) != WAVE)
+        | (four_at(bytes, 12) != FMT)
+        | (four_at(bytes, 36) != DATA)
+        | (four_at(bytes, 16) != 16)
+        | (four_at(bytes, 4) as u64 != four_at(bytes, 40) as u64 + 36)
 }
 
-fn format_right(bytes: &[u8]) -> bool
-    ensures { λ r. ⌜ r ≡ formatRight (now (bytes .entry)) ⌝ }
+fn format_wrong(bytes: &[u8]) -> bool
+    ensures { λ r. ⌜ r ≡ decide (formatWrong (now (bytes .entry))) ⌝ }
 {
-    if two_at(bytes, 20) != 1 {
-        return false;
-    }
-    if two_at(bytes, 22) != 2 {
-        return false;
-    }
-    if two_at(bytes, 34) != 16 {
-        return false;
-    }
-    if two_at(bytes, 32) != 4 {
-        return false;
-    }
-    four_at(bytes, 28) as u64 == 4 * (four_at(bytes, 24) as u64)
+    (two_at(bytes, 20) != 1)
+        | (two_at(bytes, 22) != 2)
+        | (two_at(bytes, 34) != 16)
+        | (two_at(bytes, 32) != 4)
+        | (four_at(bytes, 28) as u64 != 4 * (four_at(bytes, 24) as u64))
 }
 
-fn rate_right(most: u32, rate: u32) -> bool
-    ensures { λ r. ⌜ r ≡ rateRight most rate ⌝ }
+fn rate_wrong(rate: u32, most: u32) -> bool
+    ensures { λ r. ⌜ r ≡ decide (rateWrong rate most) ⌝ }
 {
-    if rate < 8000 {
-        return false;
-    }
-    if rate > 192000 {
-        return false;
-    }
-    rate <= most
+    (rate < 8000) | (rate > 192000) | (rate > most)
 }
 
 // What the first 44 bytes say to a program that takes rates up to `most`.
@@ -101,14 +78,14 @@ pub fn read(bytes: &[u8], most: u32) -> Header
     if bytes.len() < 44 {
         return Header::Short;
     }
-    if !names_right(bytes) {
+    if names_wrong(bytes) {
         return Header::Names;
     }
-    if !format_right(bytes) {
+    if format_wrong(bytes) {
         return Header::Format;
     }
     let rate = four_at(bytes, 24);
-    if !rate_right(most, rate) {
+    if rate_wrong(rate, most) {
         return Header::Rate;
     }
     let size = four_at(bytes, 40);

@@ -1,22 +1,19 @@
 -- `read` meets its contract: it tests the table row by row, and at each return the rows before it are past. Assumes nothing.
-use mathlib.Core.Path.{_≡_, refl, ap, ap₂, sym, _∙_}
+use mathlib.Core.Path.{refl, ap, sym, _∙_}
 use mathlib.Core.Bool.{not}
-use Prim.Native.Nat.{ℕ, _%_}
+use Prim.Native.Nat.{ℕ}
 use borrow.Author.Tests.{lt-ltb, le-ltb, eq-eqb, ne-eqb}
 use borrow.Author.Needs.{needs}
 use denote.Ref.{now}
-use lib.Dec.{eqb}
 use lib.ListN.{drop}
 use Rattle.rows.proofs.Tested.{Gives, row-hit, row-pass, row-none}
-use Rattle.wav_bytes.specs.Bytes.{fourAt}
-use Rattle.wav_header.specs.declared.Header.the-variants.{Read}
-use Rattle.wav_header.specs.Header.{rateRight, headerRows, headerOf}
+use Rattle.wav_header.specs.Header.{headerRows, readOf, headerOf}
 use Rattle.wav_header.proofs.read.Statement.{statement}
 use Rattle.wav_header.proofs.read.Tie as tie
 
 -- past the first n rows
 abbrev Past : ℕ → tie.Start → Type 0
-Past n z = let bytes = now (z .args .bytes) in Gives (drop n (headerRows bytes (z .args .most))) (Read (fourAt bytes 24) (fourAt bytes 40)) (headerOf bytes (z .args .most))
+Past n z = let bytes = now (z .args .bytes) in Gives (drop n (headerRows bytes (z .args .most))) (readOf bytes) (headerOf bytes (z .args .most))
 
 past-none : (z : tie.Start) → Past 0 z
 unfolding headerOf
@@ -28,62 +25,56 @@ returns c = row-hit (past-none (c .before .before)) (lt-ltb _ _ (c .if1 .taken))
 past-short : (c : tie.Else1) → Past 1 (c .before .before)
 past-short c = row-pass (past-none (c .before .before)) (le-ltb _ _ (c .if1 .left))
 
-names-right-requires : tie.Need-names-right-requires
-names-right-requires c κs = search needs
+names-wrong-requires : tie.Need-names-wrong-requires
+names-wrong-requires c κs = search needs
 
 returns-2 : tie.Need-returns-2
-returns-2 c = row-hit (past-short (c .before .before)) (ap not (sym (c .before .names-right .ensures)) ∙ c .if2 .taken)
+returns-2 c = row-hit (past-short (c .before .before)) (sym (c .before .names-wrong .ensures) ∙ c .if2 .taken)
 
 past-names : (c : tie.Else2) → Past 2 (c .before .before .before .before)
-past-names c = row-pass (past-short (c .before .before)) (ap not (sym (c .before .names-right .ensures)) ∙ c .if2 .left)
+past-names c = row-pass (past-short (c .before .before)) (sym (c .before .names-wrong .ensures) ∙ c .if2 .left)
 
-format-right-requires : tie.Need-format-right-requires
-format-right-requires c κs = search needs
+format-wrong-requires : tie.Need-format-wrong-requires
+format-wrong-requires c κs = search needs
 
 returns-3 : tie.Need-returns-3
-returns-3 c = row-hit (past-names (c .before .before)) (ap not (sym (c .before .format-right .ensures)) ∙ c .if3 .taken)
+returns-3 c = row-hit (past-names (c .before .before)) (sym (c .before .format-wrong .ensures) ∙ c .if3 .taken)
 
 past-format : (c : tie.Else3) → Past 3 (c .before .before .before .before .before .before)
-past-format c = row-pass (past-names (c .before .before)) (ap not (sym (c .before .format-right .ensures)) ∙ c .if3 .left)
+past-format c = row-pass (past-names (c .before .before)) (sym (c .before .format-wrong .ensures) ∙ c .if3 .left)
 
 four-at-requires : tie.Need-four-at-requires
 four-at-requires c κs = search needs
 
-rate-right-requires : tie.Need-rate-right-requires
-rate-right-requires c κs = search needs
-
--- the rate is right or not, as the header's bytes have it
-rate-is : (c : tie.After-rate-right) → let a = c .before .before .before .before .before .before .before .before .args in c .rate-right .result ≡ rateRight (a .most) (fourAt (now (a .bytes)) 24)
-rate-is c = c .rate-right .ensures ∙ ap (rateRight _) (c .before .four-at .ensures)
+rate-wrong-requires : tie.Need-rate-wrong-requires
+rate-wrong-requires c κs = search needs
 
 returns-4 : tie.Need-returns-4
-returns-4 c = row-hit (past-format (c .before .before .before)) (ap not (sym (rate-is (c .before))) ∙ c .if4 .taken)
+returns-4 c = row-hit (past-format (c .before .before .before)) (rw (← c .before .before .four-at .ensures, ← c .before .rate-wrong .ensures) (c .if4 .taken))
 
 past-rate : (c : tie.Else4) → Past 4 (c .before .before .before .before .before .before .before .before .before)
-past-rate c = row-pass (past-format (c .before .before .before)) (ap not (sym (rate-is (c .before))) ∙ c .if4 .left)
+past-rate c = row-pass (past-format (c .before .before .before)) (rw (← c .before .before .four-at .ensures, ← c .before .rate-wrong .ensures) (c .if4 .left))
 
 four-at-requires-2 : tie.Need-four-at-requires-2
 four-at-requires-2 c κs = search needs
 
 returns-5 : tie.Need-returns-5
-returns-5 c = row-hit (past-rate (c .before .before)) (ap (λ n. not (eqb (n % 4) 0)) (sym (c .before .four-at2 .ensures)) ∙ ap not (ne-eqb (c .before .four-at2 .result % 4) 0 (c .if5 .taken)))
+returns-5 c = row-hit (past-rate (c .before .before)) (rw (← c .before .four-at2 .ensures) (ap not (ne-eqb _ _ (c .if5 .taken))))
 
 returns-6 : tie.Need-returns-6
-returns-6 c =
-    ap₂ Read (c .before .before .before .before .four-at .ensures) (c .before .four-at2 .ensures)
-    ∙ row-none (row-pass (past-rate (c .before .before)) (ap (λ n. not (eqb (n % 4) 0)) (sym (c .before .four-at2 .ensures)) ∙ ap not (eq-eqb (c .before .four-at2 .result % 4) 0 (c .if5 .left))))
+returns-6 c = rw (c .before .before .before .before .four-at .ensures, c .before .four-at2 .ensures) (row-none (row-pass (past-rate (c .before .before)) (rw (← c .before .four-at2 .ensures) (ap not (eq-eqb _ _ (c .if5 .left))))))
 
 pub read-spec : {M : Type 1} → statement M
 read-spec =
     tie.close
     (tie.spec
     returns
-    names-right-requires
+    names-wrong-requires
     returns-2
-    format-right-requires
+    format-wrong-requires
     returns-3
     four-at-requires
-    rate-right-requires
+    rate-wrong-requires
     returns-4
     four-at-requires-2
     returns-5
