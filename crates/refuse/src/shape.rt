@@ -1,42 +1,54 @@
 // Refusal 3: a delay that owns stages beyond the list's end or its owner's end, or a stage too deep.
 ghost use mathlib.Core.Path.{_≡_};
-ghost use Prim.Native.Nat.{_≤_, _<_};
-ghost use Rattle.stage.specs.First.{firstOf};
-ghost use Rattle.refuse.specs.Shape.{ownsOf, outgrows, depthOf, faultyOf};
-use stage::kind::Stage;
-use stage::kind::owned;
+ghost use Prim.Native.Nat.{_<_};
+ghost use Rattle.rows.specs.First.{firstOf};
+ghost use Rattle.rows.specs.Condition.{decide};
+ghost use Rattle.memories.specs.Sizes.{places};
+ghost use Rattle.stage.specs.Holding.{ownedOf};
+ghost use Rattle.stage.specs.Setup.{stageAt, usedOf};
+ghost use Rattle.refuse.specs.Shape.{owns, outgrows, depthOf, faulty};
+use stage::kind::holding_of;
+use stage::setup::Setup;
+use stage::setup::used;
+
+// How many of the stages after it the stage at i owns.
+fn owned_at(setup: Setup, i: usize) -> usize
+    requires { ⌜ i < places ⌝ }
+    ensures { λ r. ⌜ r ≡ ownedOf (stageAt setup i) ⌝ }
+{
+    let slot = setup.slots[i];
+    let stage = slot.stage;
+    holding_of(stage).owned
+}
 
 // Does the stage at j own the one at i, after it?
-fn owns(stages: [Stage; 16], j: usize, i: usize) -> bool
-    requires { ⌜ (j < i) × (i ≤ 15) ⌝ }
-    ensures { λ r. ⌜ r ≡ ownsOf stages j i ⌝ }
+fn is_owner(setup: Setup, j: usize, i: usize) -> bool
+    requires { ⌜ (j < i) × (i < places) ⌝ }
+    ensures { λ r. ⌜ r ≡ decide (owns setup j i) ⌝ }
 {
-    let stage = stages[j];
-    i - j <= owned(stage)
+    i - j <= owned_at(setup, j)
 }
 
 // Does the stage at i own stages that lie beyond those of its owner j?
-fn is_outgrown(stages: [Stage; 16], j: usize, i: usize) -> bool
-    requires { ⌜ (j < i) × (i ≤ 15) ⌝ }
-    ensures { λ r. ⌜ r ≡ outgrows stages i j ⌝ }
+fn is_outgrown(setup: Setup, j: usize, i: usize) -> bool
+    requires { ⌜ (j < i) × (i < places) ⌝ }
+    ensures { λ r. ⌜ r ≡ decide (outgrows setup i j) ⌝ }
 {
-    let outer = stages[j];
-    let inner = stages[i];
-    let n = owned(outer);
+    let n = owned_at(setup, j);
     if n < i - j {
         return false;
     }
-    n - (i - j) < owned(inner)
+    n - (i - j) < owned_at(setup, i)
 }
 
 // The first stage before i that owns the stage at i and not all of those which that one owns.
-fn first_outgrown(stages: [Stage; 16], i: usize) -> usize
-    requires { ⌜ i ≤ 15 ⌝ }
-    ensures { λ r. ⌜ r ≡ firstOf (outgrows stages i) i ⌝ }
+fn first_outgrown(setup: Setup, i: usize) -> usize
+    requires { ⌜ i < places ⌝ }
+    ensures { λ r. ⌜ r ≡ firstOf (λ j. decide (outgrows setup i j)) i ⌝ }
 {
     let mut j = 0;
     while j < i {
-        if is_outgrown(stages, j, i) {
+        if is_outgrown(setup, j, i) {
             return j;
         }
         j += 1;
@@ -45,14 +57,14 @@ fn first_outgrown(stages: [Stage; 16], i: usize) -> usize
 }
 
 // How many stages own the stage at i.
-fn depth(stages: [Stage; 16], i: usize) -> usize
-    requires { ⌜ i ≤ 15 ⌝ }
-    ensures { λ r. ⌜ r ≡ depthOf stages i i ⌝ }
+fn depth(setup: Setup, i: usize) -> usize
+    requires { ⌜ i < places ⌝ }
+    ensures { λ r. ⌜ r ≡ depthOf setup i i ⌝ }
 {
     let mut n = 0;
     let mut j = 0;
     while j < i {
-        if owns(stages, j, i) {
+        if is_owner(setup, j, i) {
             n += 1;
         }
         j += 1;
@@ -60,27 +72,27 @@ fn depth(stages: [Stage; 16], i: usize) -> usize
     n
 }
 
-fn is_faulty(stages: [Stage; 16], count: usize, i: usize) -> bool
-    requires { ⌜ (i < count) × (count ≤ 16) ⌝ }
-    ensures { λ r. ⌜ r ≡ faultyOf stages count i ⌝ }
+fn is_faulty(setup: Setup, i: usize) -> bool
+    requires { ⌜ i < usedOf setup ⌝ }
+    ensures { λ r. ⌜ r ≡ decide (faulty setup i) ⌝ }
 {
-    let stage = stages[i];
-    if count - i <= owned(stage) {
+    if used(setup.count) - i <= owned_at(setup, i) {
         return true;
     }
-    if first_outgrown(stages, i) < i {
+    if first_outgrown(setup, i) < i {
         return true;
     }
-    3 < depth(stages, i)
+    3 < depth(setup, i)
 }
 
-pub(crate) fn first_faulty(stages: [Stage; 16], count: usize) -> usize
-    requires { ⌜ count ≤ 16 ⌝ }
-    ensures { λ r. ⌜ r ≡ firstOf (faultyOf stages count) count ⌝ }
+// Of the places that are used.
+pub(crate) fn first_faulty(setup: Setup) -> usize
+    ensures { λ r. ⌜ r ≡ firstOf (λ i. decide (faulty setup i)) (usedOf setup) ⌝ }
 {
+    let end = used(setup.count);
     let mut i = 0;
-    while i < count {
-        if is_faulty(stages, count, i) {
+    while i < end {
+        if is_faulty(setup, i) {
             return i;
         }
         i += 1;

@@ -1,0 +1,56 @@
+-- Which rule an entry of an order breaks: "an entry of the order names no top stage, or a stage that has run the last frame,
+-- or one level with the top stage before it". Definitions only.
+use mathlib.Core.List.{List, [], _∷_}
+use Prim.Native.Nat.{ℕ, _+_, _-_}
+use lib.ListN.{getD, set, take}
+use Rattle.order.specs.Order.{run}
+use Rattle.rows.specs.Condition.{Condition, less, most, both, _or_}
+use Rattle.rows.specs.Rows.{Row, row, given, firstRow}
+use Rattle.refuse.specs.declared.order.Rule.{Rule}
+use Rattle.refuse.specs.declared.order.Rule.the-variants.{Kept, NoStage, AtEnd, Level}
+
+-- the number with which an entry is refused that breaks the rule; 0 where it breaks none
+unfoldable pub ruleNumber : Rule → ℕ
+ruleNumber Kept = 0
+ruleNumber NoStage = 11
+ruleNumber AtEnd = 11
+ruleNumber Level = 11
+
+-- ---- the rules, of an entry that names k, of so many top stages and frames, at this progress
+
+-- it names no top stage
+abbrev pub noStage : ℕ → ℕ → Condition
+noStage tops k = most tops k
+
+-- its stage has run the last frame
+abbrev pub atEnd : ℕ → List ℕ → ℕ → Condition
+atEnd frames progress k = most frames (getD progress k 0)
+
+-- its stage is level with the top stage before it
+abbrev pub level : List ℕ → ℕ → Condition
+level progress k = both (less 0 k) (most (getD progress (k - 1) 0) (getD progress k 0))
+
+-- the first that it breaks
+abbrev pub entryRows : ℕ → ℕ → List ℕ → ℕ → List (Row Rule)
+entryRows tops frames progress k =
+    row 11 (given 0 (noStage tops k)) (λ p. NoStage)
+    ∷ row 11 (given 0 (atEnd frames progress k)) (λ p. AtEnd)
+    ∷ row 11 (given 0 (level progress k)) (λ p. Level)
+    ∷ []
+
+unfoldable pub ruleOf : ℕ → ℕ → List ℕ → ℕ → Rule
+unfolding firstRow
+ruleOf tops frames progress k = firstRow (entryRows tops frames progress k) Kept
+
+-- ---- a whole order
+
+-- "progress is counted entry by entry": one frame more for stage k
+abbrev pub tick : ℕ → List ℕ → List ℕ
+tick k progress = set progress k (getD progress k 0 + 1)
+
+-- the entries before the one at i being counted, this one breaks a rule
+unfoldable pub stuck : ℕ → ℕ → List ℕ → List ℕ → ℕ → Condition
+stuck tops frames progress order i =
+    let counted = run tick progress (take i order) in
+    let k = getD order i 0 in
+    noStage tops k or atEnd frames counted k or level counted k
