@@ -73,7 +73,7 @@ module _ (rate : ℕ) (l : List Stage) (c : ℕ) where
         (replaced-same rate l c (s .held) (v .held) (topAt l c k) (topAt l c (suc k)) (top-next l c k) (top-le l c (suc k)) (out (chainOf rate l c) (framesOf (s .samples)) k s .held)
         (made (chainOf rate l c) (Room rate l c) (Sized rate l c) (chain-local rate l c) (framesOf (s .samples)) s k v (z .runs .0) .held))
 
-    -- and any others go on from there
+    -- an order that begins with k is that step, and then the rest of it
     pub step-first : (xs : List ℕ) → ordered rate l c (stepped rate l c k s) xs ≡ ordered rate l c s (k ∷ xs)
     step-first xs = rw (w .samples)
 

@@ -41,7 +41,7 @@ module _ {X H : Type 0} where
     putBack k q r = record { frame = q .frame; held = C .put k (q .held) (r .held) }
 
     module _ (here : Moment) where
-      -- the frame that is here through stage k
+      -- a frame, which is `here` in its block, through stage k
       unfoldable pub through : ℕ → Out X H → Out X H
       through k r = putBack k (C .make k here (r .frame) (C .own k (r .held))) r
 
