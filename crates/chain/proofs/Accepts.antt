@@ -30,17 +30,17 @@ ClearOn rate l c s order = Clear rate l c (length (s .held .store)) (s .samples)
 
 -- ---- entries that may be run by their progress alone are an accepted order of the chain, and back
 module _ {X H : Type 0} (C : Chain X H) (F : ℕ) where
-  ticked : (k : ℕ) (s : State X H) → tick k (s .progress) ≡ step C k s .progress
+  ticked : (k : ℕ) (s : State X H) → tick k (s .progress) ≡ step C F k s .progress
   unfolding step put
   ticked k s = ap (set (s .progress) k) (add-one (getD (s .progress) k 0))
 
-  pub runs→orderly : (order : List ℕ) (s : State X H) → Allowed tick (OkFrom (C .n) F) (s .progress) order → Allowed (step C) (Ok C F) s order
+  pub runs→orderly : (order : List ℕ) (s : State X H) → Allowed tick (OkFrom (C .n) F) (s .progress) order → Allowed (step C F) (Ok C F) s order
   runs→orderly [] s a = tt
-  runs→orderly (k ∷ ks) s a = (a .0, runs→orderly ks (step C k s) (subst (λ (p : List ℕ). Allowed tick (OkFrom (C .n) F) p ks) (ticked k s) (a .1)))
+  runs→orderly (k ∷ ks) s a = (a .0, runs→orderly ks (step C F k s) (subst (λ (p : List ℕ). Allowed tick (OkFrom (C .n) F) p ks) (ticked k s) (a .1)))
 
-  pub orderly→runs : (order : List ℕ) (s : State X H) → Allowed (step C) (Ok C F) s order → Allowed tick (OkFrom (C .n) F) (s .progress) order
+  pub orderly→runs : (order : List ℕ) (s : State X H) → Allowed (step C F) (Ok C F) s order → Allowed tick (OkFrom (C .n) F) (s .progress) order
   orderly→runs [] s a = tt
-  orderly→runs (k ∷ ks) s a = (a .0, subst (λ (p : List ℕ). Allowed tick (OkFrom (C .n) F) p ks) (sym (ticked k s)) (orderly→runs ks (step C k s) (a .1)))
+  orderly→runs (k ∷ ks) s a = (a .0, subst (λ (p : List ℕ). Allowed tick (OkFrom (C .n) F) p ks) (sym (ticked k s)) (orderly→runs ks (step C F k s) (a .1)))
 
 module _ (rate : ℕ) (l : List Stage) (c : ℕ) where
   pub ready : (s : State Float Held) (order : List ℕ) → Arrays s → ClearOn rate l c s order → Ready rate l c s
@@ -70,8 +70,12 @@ module _ (rate : ℕ) (l : List Stage) (c : ℕ) where
     held-same : Same (stepped rate l c k s .held) (s .held)
     held-same =
         subst (λ (h : Held). Same h (s .held)) (sym (w .held))
-        (replaced-same rate l c (s .held) (v .held) (topAt l c k) (topAt l c (suc k)) (top-next l c k) (top-le l c (suc k)) (out (chainOf rate l c) k s .held)
+        (replaced-same rate l c (s .held) (v .held) (topAt l c k) (topAt l c (suc k)) (top-next l c k) (top-le l c (suc k)) (out (chainOf rate l c) (framesOf (s .samples)) k s .held)
         (made (chainOf rate l c) (Room rate l c) (Sized rate l c) (chain-local rate l c) (framesOf (s .samples)) s k v (z .runs .0) .held))
+
+    -- an order that begins with k is that step, and then the rest of it
+    pub step-first : (xs : List ℕ) → ordered rate l c (stepped rate l c k s) xs ≡ ordered rate l c s (k ∷ xs)
+    step-first xs = rw (w .samples)
 
     pub arrays-stay : Arrays (stepped rate l c k s)
     arrays-stay = record { positions = held-same .positions ∙ a .positions; floats = held-same .floats ∙ a .floats; progress = w .progress ∙ a .progress }
@@ -84,16 +88,16 @@ module _ (rate : ℕ) (l : List Stage) (c : ℕ) where
       shapes = z .shapes;
       settings = z .settings;
       room = omega (arith, held-same .store, z .room);
-      found = still-found rate l c s k (framesOf (s .samples)) v (z .runs .0) (z .found);
+      found = still-found rate l c s k v (z .runs .0) (z .found);
       even = rw (w .samples) (z .even);
       short = rw (w .samples) (z .short);
       within = λ j h. rw (w .samples) (w .inv .within j h);
       falls = λ j h g. w .inv .falls (j - 1) j (omega arith) h;
-      finite = still-finite rate l c s k (framesOf (s .samples)) v (z .runs .0) (z .finite);
+      finite = still-finite rate l c s k v (z .runs .0) (z .finite);
       runs = rw (w .samples) (subst (λ (p : List ℕ). Allowed tick (OkFrom (topsOf l c) (framesOf (s .samples))) p order) (ticked (chainOf rate l c) (framesOf (s .samples)) k s) (z .runs .1));
     }
 
   -- after any part of it, the rest is
   pub clear-after : (xs ys : List ℕ) (s : State Float Held) → Arrays s → ClearOn rate l c s (xs ++ ys) → Arrays (ordered rate l c s xs) × ClearOn rate l c (ordered rate l c s xs) ys
   clear-after [] ys s a z = (a, z)
-  clear-after (k ∷ xs) ys s a z = clear-after xs ys (stepped rate l c k s) (arrays-stay s k (xs ++ ys) a z) (clear-stays s k (xs ++ ys) a z)
+  clear-after (k ∷ xs) ys s a z = rw (step-first s k (xs ++ ys) a z xs) at (clear-after xs ys (stepped rate l c k s) (arrays-stay s k (xs ++ ys) a z) (clear-stays s k (xs ++ ys) a z))

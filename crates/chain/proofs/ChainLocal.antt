@@ -7,7 +7,7 @@ use native.Mathlib.Omega.{arith}
 use native.Mathlib.Decide.{decLt}
 use Rattle.line.specs.Held.{Held}
 use Rattle.line.proofs.Keeps.{Same}
-use Rattle.order.specs.Chain.{Local}
+use Rattle.order.specs.Chain.{Local, Steady}
 use Rattle.stage.specs.declared.kind.Stage.{Stage}
 use Rattle.stage.specs.Layout.{startsOf}
 use Rattle.apart.proofs.Keeps.{place-keeps}
@@ -34,9 +34,13 @@ module _ (rate : ℕ) (l : List Stage) (c : ℕ) where
 
   pub chain-local : Local (chainOf rate l c) (Room rate l c) Sized
   chain-local = record {
-    makes = λ k x a h q f. record { frame = refl; held = same-fills (topAt l c k) (topAt l c (suc k)) _ a (place-keeps rate l (startsOf rate l) (topAt l c k) (topAt l c (suc k)) _) f };
+    makes = λ k m x a h q f. record { frame = refl; held = same-fills (topAt l c k) (topAt l c (suc k)) _ a (place-keeps rate l (startsOf rate l) (topAt l c k) (topAt l c (suc k)) _) f };
     own-sized = λ k h q r. stretch-fills rate l c h r (topAt l c k) (topAt l c (suc k)) (top-next l c k) (top-le l c (suc k));
     put-fits = λ k a h q r f. replaced-room rate l c h r (topAt l c k) (topAt l c (suc k)) (top-next l c k) (top-le l c (suc k)) a f;
     own-apart = λ j k a h d p q r f. apart h r j k a d f;
     put-apart = λ j k a b h q p r f g. replaced-comm rate l c h r (topAt l c j) (topAt l c (suc j)) (top-next l c j) (top-le l c (suc j)) a f (topAt l c k) (topAt l c (suc k)) b (top-mono l c (suc j) k (omega arith)) (top-next l c k) (top-le l c (suc k)) g;
   }
+
+  -- no stage reads where in a block it is
+  pub chain-steady : Steady (chainOf rate l c)
+  chain-steady k m m' x a = refl

@@ -19,7 +19,7 @@ use Rattle.tops.proofs.TopStages.{tops-le-16}
 use Rattle.refuse.proofs.Unrun.{unrun-most}
 use Rattle.chain.specs.Chain.{Room, chainOf, framesOf, Orderly, ordered}
 use Rattle.chain.specs.Demands.{Arrays, Taken, AllAt, Finishing, CutAt, CutAnywhere, RenderCut, RenderCutAnywhere}
-use Rattle.chain.proofs.ChainLocal.{Sized, chain-local}
+use Rattle.chain.proofs.ChainLocal.{Sized, chain-local, chain-steady}
 use Rattle.chain.proofs.Accepts.{ClearOn, ready, clear-with, clear-after}
 use Rattle.chain.proofs.Running.{clear, left-is, rendered-is}
 use Rattle.chain.proofs.DemandsMet.{taken, whole, finishing-taken, finishing-is}
@@ -91,12 +91,13 @@ module _ (rate : ℕ) (l : List Stage) (c n : ℕ) (xs ys : List Float) (h : Hel
     -- and three orders that finish leave the same
     parts : (e b : List ℕ) → Finishing rate l c s e → Finishing rate l c s₁ a → Finishing rate l c s₂ b → Cut (ordered rate l c s e) (ordered rate l c s₁ a) (ordered rate l c s₂ b)
     parts e b fe fa fb =
-        let f : framesOf xs ≡ n = rw k (omega arith) in
-        let g : framesOf (xs ++ ys) ≡ n + framesOf ys = rw long (omega arith) in
-        cut-parts (chainOf rate l c) (Room rate l c) (Sized rate l c) (chain-local rate l c) n (framesOf ys) s s₁ s₂ e a b k refl refl refl
+        let f : length xs ≡ framesOf xs * 2 = omega arith in
+        let g : framesOf (xs ++ ys) ≡ framesOf xs + framesOf ys = rw (long, k) (omega arith) in
+        rw g
+        (cut-parts (chainOf rate l c) (Room rate l c) (Sized rate l c) (chain-local rate l c) (chain-steady rate l c) (framesOf xs) (framesOf ys) s s₁ s₂ e a b f refl refl refl
         (rw g at (ready rate l c s [] ar whole-clear)) (rw g at (whole rate l c s e fe))
-        (rw f at (ready rate l c s₁ [] first-arrays first-clear)) (rw f at (whole rate l c s₁ a fa))
-        (ready rate l c s₂ [] second-arrays second-clear) (whole rate l c s₂ b fb)
+        (ready rate l c s₁ [] first-arrays first-clear) (whole rate l c s₁ a fa)
+        (ready rate l c s₂ [] second-arrays second-clear) (whole rate l c s₂ b fb))
 
 -- what is left is the same, said of other names for it
 cut-same : {r q r₁ q₁ r₂ q₂ : State Float Held} → q ≡ r → q₁ ≡ r₁ → q₂ ≡ r₂ → Cut r r₁ r₂ → Cut q q₁ q₂

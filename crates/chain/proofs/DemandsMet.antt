@@ -6,7 +6,7 @@ use native.Mathlib.Omega.{arith}
 use lib.Ieee.{Float}
 use lib.ListN.{length}
 use Rattle.line.specs.Held.{Held}
-use Rattle.order.specs.Chain.{State, Chain, Out, at, out}
+use Rattle.order.specs.Chain.{State, moment, Chain, Out, at, out}
 use Rattle.order.specs.Render.{frames, from}
 use Rattle.order.specs.Finish.{finishing}
 use Rattle.order.specs.Claims.{Whole, Finishes}
@@ -22,10 +22,10 @@ use Rattle.tops.proofs.TopStages.{top-le, top-next}
 use Rattle.table.proofs.Clears.{accepted-of-clear}
 use Rattle.chain.specs.Chain.{stretch, Room, chainOf, framesOf, Ready, May, stepped}
 use Rattle.chain.specs.Run.{leftOf}
-use Rattle.chain.specs.Demands.{Arrays, Outside, Taken, AllAt, Finishing, StepByStep, OneStep, StepsKeepApart, Alike, StepsStandAlone, AnyOrder, WholeFrames, RenderIsRun}
+use Rattle.chain.specs.Demands.{Arrays, Outside, Taken, AllAt, Finishing, StepByStep, heldBy, nextFrame, OneStep, StepsKeepApart, Alike, StepsStandAlone, AnyOrder, WholeFrames, RenderIsRun}
 use Rattle.chain.proofs.Stretches.{stretch-same, outside-store, outside-positions, outside-floats}
-use Rattle.chain.proofs.ChainLocal.{Sized, chain-local}
-use Rattle.chain.proofs.Accepts.{ClearOn, ready, orderly, clear-with, clear-stays}
+use Rattle.chain.proofs.ChainLocal.{Sized, chain-local, chain-steady}
+use Rattle.chain.proofs.Accepts.{ClearOn, ready, orderly, clear-with, step-first, clear-stays}
 use Rattle.chain.proofs.Running.{clear, left-is, rendered-is}
 
 pub taken : (rate : ℕ) (l : List Stage) (c : ℕ) (s : State Float Held) (order : List ℕ) → ClearOn rate l c s order → Taken rate l c s order
@@ -41,7 +41,7 @@ step-by-step rate l c s k order a t =
     record {
       first = first;
       others = subst (λ (w : State Float Held). Taken rate l c w order) (sym one) others;
-      same = left-is rate l c s (k ∷ order) t ∙ sym (left-is rate l c (stepped rate l c k s) order others) ∙ ap (λ (w : State Float Held). leftOf rate l c w order) (sym one);
+      same = left-is rate l c s (k ∷ order) t ∙ sym (step-first rate l c s k order a z order) ∙ sym (left-is rate l c (stepped rate l c k s) order others) ∙ ap (λ (w : State Float Held). leftOf rate l c w order) (sym one);
       step-is = one;
     }
 
@@ -65,7 +65,7 @@ module _ (rate : ℕ) (l : List Stage) (c : ℕ) (s : State Float Held) (k : ℕ
   e≤c : topAt l c (suc k) ≤ c
   e≤c = top-le l c (suc k)
 
-  fills : Sized rate l c k (out C k s .held)
+  fills : Sized rate l c k (out C F k s .held)
   fills = made C (Room rate l c) (Sized rate l c) (chain-local rate l c) F s k is-ready may .held
 
   keep-apart : OneStep rate l c k s (stepped rate l c k s)
@@ -75,10 +75,10 @@ module _ (rate : ℕ) (l : List Stage) (c : ℕ) (s : State Float Held) (k : ℕ
       record {
         frame = w .frame;
         samples = record { lengths = w .samples; before = w .before 0 (at s k * 2) (omega arith); after = w .after };
-        held = ap (λ (h : Held). stretch rate l (topAt l c k) (topAt l c (suc k)) h) (w .held) ∙ stretch-same rate l c (s .held) r (topAt l c k) (topAt l c (suc k)) i≤e e≤c (out C k s .held) fills;
-        store = subst (λ (h : Held). Outside (startOf rate l (topAt l c k)) (startOf rate l (topAt l c (suc k))) (s .held .store) (h .store)) (sym (w .held)) (outside-store rate l c (s .held) r (topAt l c k) (topAt l c (suc k)) i≤e e≤c (out C k s .held) fills);
-        positions = subst (λ (h : Held). Outside (24 * topAt l c k) (24 * topAt l c (suc k)) (s .held .positions) (h .positions)) (sym (w .held)) (outside-positions rate l c (s .held) r (topAt l c k) (topAt l c (suc k)) i≤e e≤c (out C k s .held) fills);
-        floats = subst (λ (h : Held). Outside (20 * topAt l c k) (20 * topAt l c (suc k)) (s .held .floats) (h .floats)) (sym (w .held)) (outside-floats rate l c (s .held) r (topAt l c k) (topAt l c (suc k)) i≤e e≤c (out C k s .held) fills);
+        held = ap (λ (h : Held). stretch rate l (topAt l c k) (topAt l c (suc k)) h) (w .held) ∙ stretch-same rate l c (s .held) r (topAt l c k) (topAt l c (suc k)) i≤e e≤c (out C F k s .held) fills;
+        store = subst (λ (h : Held). Outside (startOf rate l (topAt l c k)) (startOf rate l (topAt l c (suc k))) (s .held .store) (h .store)) (sym (w .held)) (outside-store rate l c (s .held) r (topAt l c k) (topAt l c (suc k)) i≤e e≤c (out C F k s .held) fills);
+        positions = subst (λ (h : Held). Outside (24 * topAt l c k) (24 * topAt l c (suc k)) (s .held .positions) (h .positions)) (sym (w .held)) (outside-positions rate l c (s .held) r (topAt l c k) (topAt l c (suc k)) i≤e e≤c (out C F k s .held) fills);
+        floats = subst (λ (h : Held). Outside (20 * topAt l c k) (20 * topAt l c (suc k)) (s .held .floats) (h .floats)) (sym (w .held)) (outside-floats rate l c (s .held) r (topAt l c k) (topAt l c (suc k)) i≤e e≤c (out C F k s .held) fills);
         moved = w .moved;
         others = w .others;
         falls = w .inv .falls;
@@ -90,10 +90,14 @@ module _ (rate : ℕ) (l : List Stage) (c : ℕ) (s : State Float Held) (k : ℕ
 pub steps-keep-apart : StepsKeepApart
 steps-keep-apart = keeps-apart
 
--- what stage k makes depends on its next frame and on what it holds
-same-out : (rate : ℕ) (l : List Stage) (c : ℕ) (s t : State Float Held) (k : ℕ) → Alike rate l c k s t → out (chainOf rate l c) k s ≡ out (chainOf rate l c) k t
+-- what stage k makes depends on its next frame and on what it holds alone
+same-out : (rate : ℕ) (l : List Stage) (c : ℕ) (s t : State Float Held) (k : ℕ) → Alike rate l c k s t
+    → out (chainOf rate l c) (framesOf (s .samples)) k s ≡ out (chainOf rate l c) (framesOf (t .samples)) k t
 unfolding out
-same-out rate l c s t k q = λ i. chainOf rate l c .make k (q .frame i) (q .held i)
+same-out rate l c s t k q =
+    let m = moment (at t k) (framesOf (t .samples)) in
+    chain-steady rate l c k (moment (at s k) (framesOf (s .samples))) m (nextFrame rate l c k s) (heldBy rate l c k s)
+    ∙ (λ i. chainOf rate l c .make k m (q .frame i) (q .held i))
 
 pub steps-stand-alone : StepsStandAlone
 steps-stand-alone rate l c s t k a b u v q =

@@ -12,7 +12,7 @@ use lib.Seq.{getD-drop}
 use Rattle.float.specs.Finite.{finiteOf}
 use Rattle.line.specs.Held.{Held, ran}
 use Rattle.order.specs.Stretch.{part}
-use Rattle.order.specs.Chain.{State, Ok, Inv, at, out}
+use Rattle.order.specs.Chain.{State, at, out}
 use Rattle.order.specs.Claims.{Stepped}
 use Rattle.order.proofs.OneStep.{one-step, lag, made}
 use Rattle.order.proofs.Stretches.{length-part}
@@ -26,7 +26,7 @@ use Rattle.refuse.specs.Refusals.{unrunFrom}
 use Rattle.refuse.proofs.Unrun.{unrun-some}
 use Rattle.tops.proofs.TopStages.{top-le, top-next}
 use Rattle.line.specs.Frames.{frameAt}
-use Rattle.chain.specs.Chain.{stretch, replaced, Room, chainOf, stepped}
+use Rattle.chain.specs.Chain.{stretch, replaced, Room, chainOf, framesOf, Ready, May, stepped}
 use Rattle.chain.proofs.ChainLocal.{Sized, chain-local}
 
 -- ---- samples past the frame that a step runs are as they were
@@ -35,9 +35,9 @@ past-frame n i xs ys e h =
     let k : n + (i - n) ≡ i = omega arith in
     sym (ap (λ (m : ℕ). getD xs m nan) k) ∙ sym (getD-drop n xs (i - n) nan) ∙ ap (λ (l : List Float). getD l (i - n) nan) e ∙ getD-drop n ys (i - n) nan ∙ ap (λ (m : ℕ). getD ys m nan) k
 
-module _ (rate : ℕ) (l : List Stage) (c : ℕ) (s : State Float Held) (k F : ℕ) (v : Inv (chainOf rate l c) (Room rate l c) F s) (o : Ok (chainOf rate l c) F s k) where
-  z : State Float Held
-  z = stepped rate l c k s
+module _ (rate : ℕ) (l : List Stage) (c : ℕ) (s : State Float Held) (k : ℕ) (v : Ready rate l c s) (o : May rate l c s k) where
+  abbrev F : ℕ
+  F = framesOf (s .samples)
 
   w : Stepped (chainOf rate l c) (Room rate l c) F k s (stepped rate l c k s)
   w = one-step (chainOf rate l c) (Room rate l c) (Sized rate l c) (chain-local rate l c) F s k v o
@@ -84,5 +84,5 @@ module _ (rate : ℕ) (l : List Stage) (c : ℕ) (s : State Float Held) (k F : �
       let own : length (part (24 * t) (24 * e - 24 * t) xs) ≡ 24 * (e - t) = length-part (24 * t) (24 * e - 24 * t) xs (omega (arith, v .held .positions)) ∙ n in
       let all : Good rate l 0 c xs = λ a b za ac bn. rw sub-zero (f a b ac bn) in
       let mine : Good rate l t e (part (24 * t) (24 * e - 24 * t) xs) = subst (λ (q : ℕ). Good rate l t e (part (24 * t) q xs)) (sym n) (good-part rate l c t e xs ec all) in
-      let after = good-splice rate l c t e (out C k s .held .positions) xs te ec (v .held .positions) (m .held .positions ∙ n) (place-stays rate l (startsOf rate l) t e (ran (frameAt 0 (part (at s k * 2) 2 (s .samples))) (stretch rate l t e (s .held))) (le-of-eq (sym own)) mine) all in
+      let after = good-splice rate l c t e (out C F k s .held .positions) xs te ec (v .held .positions) (m .held .positions ∙ n) (place-stays rate l (startsOf rate l) t e (ran (frameAt 0 (part (at s k * 2) 2 (s .samples))) (stretch rate l t e (s .held))) (le-of-eq (sym own)) mine) all in
       subst (λ (ps : List ℕ). getD ps (24 * i + j) 0 < getD (linesOf rate (stageAt l i)) j 0) (sym (ap (λ (h : Held). h .positions) (w .held))) (rw sub-zero at (after i j (omega arith) ic jl))

@@ -9,7 +9,7 @@ use lib.Ieee.{Float}
 use lib.ListN.{length, getD, drop, replicate, drop-of-length-le}
 use lib.Seq.{drop-cons}
 use Rattle.line.specs.Held.{Held}
-use Rattle.order.specs.Order.{count, Allowed}
+use Rattle.order.specs.Order.{count, run, Allowed}
 use Rattle.order.specs.Chain.{State, at, step, Ok, Inv}
 use Rattle.order.specs.Claims.{Stepped, Kept}
 use Rattle.order.specs.Finish.{finishing-from, finishing}
@@ -25,8 +25,8 @@ use Rattle.chain.proofs.ChainLocal.{Sized, chain-local}
 -- of an order from s₀ on, xs is left at s
 pub record Left (rate : ℕ) (l : List Stage) (c : ℕ) (s₀ : State Float Held) (order : List ℕ) (s : State Float Held) (xs : List ℕ) : Type 0 where
   pub ready : Inv (chainOf rate l c) (Room rate l c) (framesOf (s₀ .samples)) s
-  pub orderly : Allowed (step (chainOf rate l c)) (Ok (chainOf rate l c) (framesOf (s₀ .samples))) s xs
-  pub same : ordered rate l c s xs ≡ ordered rate l c s₀ order
+  pub orderly : Allowed (step (chainOf rate l c) (framesOf (s₀ .samples))) (Ok (chainOf rate l c) (framesOf (s₀ .samples))) s xs
+  pub same : run (step (chainOf rate l c) (framesOf (s₀ .samples))) s xs ≡ ordered rate l c s₀ order
   pub long : length (s .samples) ≡ length (s₀ .samples)
 
 -- of the order that brings every top stage to the last frame, what is left is of the stages from k on, which are where they were
@@ -45,16 +45,16 @@ module _ {rate : ℕ} {l : List Stage} {c : ℕ} {s₀ : State Float Held} {orde
   pub left-may : {k : ℕ} {xs : List ℕ} → Left rate l c s₀ order s (k ∷ xs) → May rate l c s k
   left-may t = rw (t .long) (t .orderly .0)
 
-  one : {k : ℕ} {xs : List ℕ} → Left rate l c s₀ order s (k ∷ xs) → Stepped (chainOf rate l c) (Room rate l c) (framesOf (s₀ .samples)) k s (stepped rate l c k s)
+  one : {k : ℕ} {xs : List ℕ} → Left rate l c s₀ order s (k ∷ xs) → Stepped (chainOf rate l c) (Room rate l c) (framesOf (s₀ .samples)) k s (step (chainOf rate l c) (framesOf (s₀ .samples)) k s)
   one {k} t = one-step (chainOf rate l c) (Room rate l c) (Sized rate l c) (chain-local rate l c) (framesOf (s₀ .samples)) s k (t .ready) (t .orderly .0)
 
   pub left-next : {k : ℕ} {xs : List ℕ} {z : State Float Held} → Left rate l c s₀ order s (k ∷ xs) → z ≡ stepped rate l c k s → Left rate l c s₀ order z xs
-  left-next t e = let o = one t in rw e (record { ready = o .inv; orderly = t .orderly .1; same = t .same; long = o .samples ∙ t .long })
+  left-next t e = let o = one t in rw (e, t .long) (record { ready = o .inv; orderly = t .orderly .1; same = t .same; long = o .samples ∙ t .long })
 
-  some : (xs ys : List ℕ) → Left rate l c s₀ order s (xs ++ ys) → Kept (chainOf rate l c) (Room rate l c) (framesOf (s₀ .samples)) xs s (ordered rate l c s xs)
+  some : (xs ys : List ℕ) → Left rate l c s₀ order s (xs ++ ys) → Kept (chainOf rate l c) (Room rate l c) (framesOf (s₀ .samples)) xs s (run (step (chainOf rate l c) (framesOf (s₀ .samples))) s xs)
   some xs ys t =
       run-keeps (chainOf rate l c) (Room rate l c) (Sized rate l c) (chain-local rate l c) (framesOf (s₀ .samples)) xs s (t .ready)
-      (accepted-prefix (step (chainOf rate l c)) (Ok (chainOf rate l c) (framesOf (s₀ .samples))) xs ys s (t .orderly))
+      (accepted-prefix (step (chainOf rate l c) (framesOf (s₀ .samples))) (Ok (chainOf rate l c) (framesOf (s₀ .samples))) xs ys s (t .orderly))
 
   -- ---- an order, entry by entry
   pub all-turn : (at : ℕ) → at < length order → Left rate l c s₀ order s (drop at order) → Left rate l c s₀ order s (getD order at 0 ∷ drop (at + 1) order)
@@ -70,7 +70,7 @@ module _ {rate : ℕ} {l : List Stage} {c : ℕ} {s₀ : State Float Held} {orde
 
     module _ {z : State Float Held} (h : at s k < framesOf (s₀ .samples)) (t : Left rate l c s₀ order s (replicate (framesOf (s₀ .samples) - at s k) k)) (e : z ≡ stepped rate l c k s) where
       pub end-moved : at z k ≡ suc (at s k)
-      end-moved = rw e (one (end-turn h t) .moved)
+      end-moved = rw (e, t .long) (one (end-turn h t) .moved)
 
       pub end-next : Left rate l c s₀ order z (replicate (framesOf (s₀ .samples) - at z k) k)
       end-next = rw end-moved (left-next (end-turn h t) e)
@@ -95,7 +95,7 @@ module _ {rate : ℕ} {l : List Stage} {c : ℕ} {s₀ : State Float Held} {k : 
   module _ (h : k < topsOf l c) where
     -- what is left is of stage k, and then of others
     abbrev mine : List ℕ
-    mine = replicate (framesOf (s .samples) - at s k) k
+    mine = replicate (framesOf (s₀ .samples) - at s k) k
 
     abbrev others : List ℕ
     others = finishing-from (k + 1) (topsOf l c - (k + 1)) (framesOf (s₀ .samples)) (s₀ .progress)
@@ -104,25 +104,25 @@ module _ {rate : ℕ} {l : List Stage} {c : ℕ} {s₀ : State Float Held} {k : 
     unfolding finishing-from
     finish-turn =
         let e : topsOf l c - k ≡ suc (topsOf l c - suc k) = omega arith in
-        rw (t .left .long, t .rest k (omega arith), add-one k) (rw e at (t .left))
+        rw (t .rest k (omega arith), add-one k) (rw e at (t .left))
 
-    pub finish-orderly : Orderly rate l c s mine
+    pub finish-orderly : Orderly rate l c s (replicate (framesOf (s .samples) - at s k) k)
     finish-orderly =
-        let a = accepted-prefix (step (chainOf rate l c)) (Ok (chainOf rate l c) (framesOf (s₀ .samples))) mine others s (finish-turn .orderly) in
-        rw (t .left .long) (rw (t .left .long) at a)
+        rw (t .left .long) (accepted-prefix (step (chainOf rate l c) (framesOf (s₀ .samples))) (Ok (chainOf rate l c) (framesOf (s₀ .samples))) mine others s (finish-turn .orderly))
 
-    pub finish-next : {z : State Float Held} → z ≡ ordered rate l c s mine → Finished rate l c s₀ (k + 1) z
+    pub finish-next : {z : State Float Held} → z ≡ ordered rate l c s (replicate (framesOf (s .samples) - at s k) k) → Finished rate l c s₀ (k + 1) z
     finish-next e =
         let C = chainOf rate l c in
+        let F : ℕ = framesOf (s₀ .samples) in
         let o = some mine others finish-turn in
-        rw e (record {
+        rw (e, t .left .long) (record {
           left = record {
             ready = o .inv;
-            orderly = accepted-suffix (step C) (Ok C (framesOf (s₀ .samples))) mine others s (finish-turn .orderly);
-            same = sym (run-append (step C) mine others s) ∙ finish-turn .same;
+            orderly = accepted-suffix (step C F) (Ok C F) mine others s (finish-turn .orderly);
+            same = sym (run-append (step C F) mine others s) ∙ finish-turn .same;
             long = o .samples ∙ t .left .long;
           };
-          rest = λ j g. omega (arith, o .moved j, others-none j k (framesOf (s .samples) - at s k) (omega arith), t .rest j (omega arith));
+          rest = λ j g. omega (arith, o .moved j, others-none j k (F - at s k) (omega arith), t .rest j (omega arith));
         })
 
   pub finish-last : topsOf l c ≤ k → s ≡ ordered rate l c s₀ (finishing (topsOf l c) (framesOf (s₀ .samples)) (s₀ .progress))

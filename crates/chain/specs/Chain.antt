@@ -44,7 +44,7 @@ chainOf rate l c = record {
   n = topsOf l c;
   own = λ k h. stretch rate l (topAt l c k) (topAt l c (suc k)) h;
   put = λ k a h. replaced rate l (topAt l c k) a h;
-  make = λ k x a. outOf (processAt rate l (startsOf rate l) (topAt l c k) (topAt l c (suc k)) (ran (frameAt 0 x) a));
+  make = λ k _ x a. outOf (processAt rate l (startsOf rate l) (topAt l c k) (topAt l c (suc k)) (ran (frameAt 0 x) a));
 }
 
 abbrev pub state : List Float → List Float → List ℕ → List Float → List ℕ → State Float Held
@@ -64,11 +64,11 @@ abbrev pub May : ℕ → List Stage → ℕ → State Float Held → ℕ → Typ
 May rate l c s k = Ok (chainOf rate l c) (framesOf (s .samples)) s k
 
 abbrev pub Orderly : ℕ → List Stage → ℕ → State Float Held → List ℕ → Type 0
-Orderly rate l c s order = Allowed (step (chainOf rate l c)) (Ok (chainOf rate l c) (framesOf (s .samples))) s order
+Orderly rate l c s order = Allowed (step (chainOf rate l c) (framesOf (s .samples))) (Ok (chainOf rate l c) (framesOf (s .samples))) s order
 
 -- top stage k run on its next frame; and an order, entry by entry
 abbrev pub stepped : ℕ → List Stage → ℕ → ℕ → State Float Held → State Float Held
-stepped rate l c k s = step (chainOf rate l c) k s
+stepped rate l c k s = step (chainOf rate l c) (framesOf (s .samples)) k s
 
 abbrev pub ordered : ℕ → List Stage → ℕ → State Float Held → List ℕ → State Float Held
-ordered rate l c s order = run (step (chainOf rate l c)) s order
+ordered rate l c s order = run (step (chainOf rate l c) (framesOf (s .samples))) s order

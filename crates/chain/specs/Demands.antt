@@ -75,10 +75,10 @@ module _ (rate : ℕ) (l : List Stage) (c : ℕ) where
 
   pub record OneStep (k : ℕ) (s z : State Float Held) : Type 0 where
     -- the frame at k's progress is what the stage makes of it, and no other sample changes
-    pub frame : part (at s k * 2) 2 (z .samples) ≡ out (chainOf rate l c) k s .frame
+    pub frame : part (at s k * 2) 2 (z .samples) ≡ out (chainOf rate l c) (framesOf (s .samples)) k s .frame
     pub samples : Outside (at s k * 2) (suc (at s k) * 2) (s .samples) (z .samples)
     -- so are the lines and memories of stage k and of the stages that it owns; all others, and "floats past the last line", do not change
-    pub held : heldBy k z ≡ out (chainOf rate l c) k s .held
+    pub held : heldBy k z ≡ out (chainOf rate l c) (framesOf (s .samples)) k s .held
     pub store : Outside (startOf rate l (startPlace k)) (startOf rate l (endPlace k)) (s .held .store) (z .held .store)
     pub positions : Outside (placePositions * startPlace k) (placePositions * endPlace k) (s .held .positions) (z .held .positions)
     pub floats : Outside (placeFloats * startPlace k) (placeFloats * endPlace k) (s .held .floats) (z .held .floats)

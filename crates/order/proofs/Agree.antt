@@ -13,15 +13,15 @@ use Rattle.order.proofs.Swaps.{diamond}
 use Rattle.order.proofs.Keeps.{count-beyond, run-keeps}
 
 module _ {X H : Type 0} (C : Chain X H) (Fits : H → Type 0) (Sized : ℕ → H → Type 0) (L : Local C Fits Sized) (F : ℕ) where
-  pub orders-agree : (xs ys : List ℕ) (s : State X H) → Inv C Fits F s → Allowed (step C) (Ok C F) s xs → Allowed (step C) (Ok C F) s ys
-      → ((i : ℕ) → i < C .n → count i xs ≡ count i ys) → run (step C) s xs ≡ run (step C) s ys
-  orders-agree xs ys s v a b c = same-counts (step C) (Ok C F) (Inv C Fits F) (diamond C Fits Sized L F) xs ys s v a b (λ i. go i (decLt i (C .n)))
+  pub orders-agree : (xs ys : List ℕ) (s : State X H) → Inv C Fits F s → Allowed (step C F) (Ok C F) s xs → Allowed (step C F) (Ok C F) s ys
+      → ((i : ℕ) → i < C .n → count i xs ≡ count i ys) → run (step C F) s xs ≡ run (step C F) s ys
+  orders-agree xs ys s v a b c = same-counts (step C F) (Ok C F) (Inv C Fits F) (diamond C Fits Sized L F) xs ys s v a b (λ i. go i (decLt i (C .n)))
     where
       go : (i : ℕ) → Dec (i < C .n) → count i xs ≡ count i ys
       go i (yes h) = c i h
       go i (no h) = count-beyond C F xs s a i (omega arith) ∙ sym (count-beyond C F ys s b i (omega arith))
 
-  pub finishes-agree : (xs ys : List ℕ) (s : State X H) → Inv C Fits F s → Finishes C F s xs → Finishes C F s ys → run (step C) s xs ≡ run (step C) s ys
+  pub finishes-agree : (xs ys : List ℕ) (s : State X H) → Inv C Fits F s → Finishes C F s xs → Finishes C F s ys → run (step C F) s xs ≡ run (step C F) s ys
   finishes-agree xs ys s v a b =
       let p = run-keeps C Fits Sized L F xs s v (a .accepted) in
       let q = run-keeps C Fits Sized L F ys s v (b .accepted) in

@@ -24,14 +24,14 @@ module _ {X H : Type 0} (C : Chain X H) (Fits : H → Type 0) (Sized : ℕ → H
   -- ---- stage k, d times
 
   record Moved (k d : ℕ) (s z : State X H) : Type 0 where
-    accepted : Allowed (step C) (Ok C F) s (replicate d k)
+    accepted : Allowed (step C F) (Ok C F) s (replicate d k)
     up : Up (suc k) z
     others : (j : ℕ) → j ≢ k → at z j ≡ at s j
 
   may : (k d : ℕ) (s : State X H) → suc d + at s k ≡ F → k < C .n → Up k s → Ok C F s k
   may k d s e h u = record { inside = h; room = omega arith; behind = λ l. omega (arith, u .past (k - 1) (omega arith)) }
 
-  moved : (k d : ℕ) (s : State X H) → d + at s k ≡ F → k < C .n → Up k s → Moved k d s (run (step C) s (replicate d k))
+  moved : (k d : ℕ) (s : State X H) → d + at s k ≡ F → k < C .n → Up k s → Moved k d s (run (step C F) s (replicate d k))
   moved k zero s e h u = record { accepted = tt; up = record { inv = u .inv; past = λ j l. go j l (ℕ-discrete j k) }; others = λ j d. refl }
     where
       go : (j : ℕ) → j < suc k → Dec (j ≡ k) → at s j ≡ F
@@ -40,7 +40,7 @@ module _ {X H : Type 0} (C : Chain X H) (Fits : H → Type 0) (Sized : ℕ → H
   moved k (suc d) s e h u =
       let c = may k d s e h u in
       let o = one-step C Fits Sized L F s k (u .inv) c in
-      let r = moved k d (step C k s) (omega (arith, o .moved)) h (record { inv = o .inv; past = λ j l. o .others j (omega arith) ∙ u .past j l }) in
+      let r = moved k d (step C F k s) (omega (arith, o .moved)) h (record { inv = o .inv; past = λ j l. o .others j (omega arith) ∙ u .past j l }) in
       record { accepted = (c, r .accepted); up = r .up; others = λ j q. r .others j q ∙ o .others j q }
 
   -- ---- stage k, and those after it
@@ -49,8 +49,8 @@ module _ {X H : Type 0} (C : Chain X H) (Fits : H → Type 0) (Sized : ℕ → H
       → ((z : State X H) → Up (suc k) z → ((j : ℕ) → j ≢ k → at z j ≡ at s j) → Finishes C F z ys) → Finishes C F s (replicate d k ++ ys)
   then k d ys s e h u f =
       let o = moved k d s e h u in
-      let r = f (run (step C) s (replicate d k)) (o .up) (o .others) in
-      record { accepted = accepted-append (step C) (Ok C F) (replicate d k) ys s (o .accepted) (r .accepted); done = rw run-append (r .done) }
+      let r = f (run (step C F) s (replicate d k)) (o .up) (o .others) in
+      record { accepted = accepted-append (step C F) (Ok C F) (replicate d k) ys s (o .accepted) (r .accepted); done = rw run-append (r .done) }
 
   from-here : (k m : ℕ) (p : List ℕ) (s : State X H) → k + m ≡ C .n → Up k s → ((j : ℕ) → k ≤ j → at s j ≡ getD p j 0) → Finishes C F s (finishing-from k m F p)
   unfolding finishing-from
@@ -62,5 +62,5 @@ module _ {X H : Type 0} (C : Chain X H) (Fits : H → Type 0) (Sized : ℕ → H
   pub finishing-finishes : (s : State X H) → Inv C Fits F s → Finishes C F s (finishing (C .n) F (s .progress))
   finishing-finishes s v = from-here 0 (C .n) (s .progress) s (omega arith) (record { inv = v; past = λ j l. absurd (omega arith) }) (λ j l. refl)
 
-  pub leaves-finishing : (xs : List ℕ) (s : State X H) → Inv C Fits F s → Finishes C F s xs → run (step C) s xs ≡ run (step C) s (finishing (C .n) F (s .progress))
+  pub leaves-finishing : (xs : List ℕ) (s : State X H) → Inv C Fits F s → Finishes C F s xs → run (step C F) s xs ≡ run (step C F) s (finishing (C .n) F (s .progress))
   leaves-finishing xs s v a = finishes-agree C Fits Sized L F xs (finishing (C .n) F (s .progress)) s v a (finishing-finishes s v)

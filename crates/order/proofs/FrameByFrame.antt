@@ -8,8 +8,8 @@ use lib.ListN.{take, drop, take-append-drop}
 use lib.Seq.{drop-drop}
 use Rattle.order.specs.Order.{run}
 use Rattle.order.specs.Stretch.{part}
-use Rattle.order.specs.Chain.{Out, State, Chain, step, Ok, Done, Local, Inv}
-use Rattle.order.specs.Render.{eachOnce, frames, from, first, rest, followedBy, pass, frameByFrame}
+use Rattle.order.specs.Chain.{Out, State, moment, Chain, step, Ok, Done, Local, Inv}
+use Rattle.order.specs.Render.{eachOnce, frames, from, first, rest, followedBy, pass, frameByFrameFrom, frameByFrame}
 use Rattle.order.specs.Claims.{Finishes, Whole}
 use Rattle.order.proofs.Orders.{run-append, accepted-append}
 use Rattle.order.proofs.Keeps.{run-keeps}
@@ -40,22 +40,22 @@ module _ {X H : Type 0} (C : Chain X H) (Fits : H → Type 0) (Sized : ℕ → H
   -- m frames from frame t on
   record Rendered (m t : ℕ) (s : State X H) : Type 0 where
     finishes : Finishes C F s (frames (C .n) m)
-    made-is : from t (run (step C) s (frames (C .n) m)) ≡ frameByFrame C m (from t s)
-    before : (a n : ℕ) → a + n ≤ t * 2 → part a n (run (step C) s (frames (C .n) m) .samples) ≡ part a n (s .samples)
+    made-is : from t (run (step C F) s (frames (C .n) m)) ≡ frameByFrameFrom C F t m (from t s)
+    before : (a n : ℕ) → a + n ≤ t * 2 → part a n (run (step C F) s (frames (C .n) m) .samples) ≡ part a n (s .samples)
 
   rendered : (m t : ℕ) (s : State X H) → t + m ≡ F → Inv C Fits F s → Done C t s → Rendered m t s
-  unfolding frames frameByFrame
+  unfolding frames frameByFrameFrom
   rendered zero t s e v d = record { finishes = record { accepted = tt; done = λ k l. d k l ∙ omega arith }; made-is = refl; before = λ a n h. refl }
   rendered (suc m) t s e v d =
       let w = swept C Fits Sized L F 0 (C .n) t s (omega arith) (record { inv = v; room = omega arith; past = λ j l. absurd (omega arith); left = λ j l g. d j g }) in
-      let s₁ : State X H = run (step C) s (eachOnce 0 (C .n)) in
+      let s₁ : State X H = run (step C F) s (eachOnce 0 (C .n)) in
       let u = rendered m (suc t) s₁ (omega arith) (run-keeps C Fits Sized L F (eachOnce 0 (C .n)) s v (w .accepted) .inv) (w .done) in
       record {
         finishes = record {
-          accepted = accepted-append (step C) (Ok C F) (eachOnce 0 (C .n)) (frames (C .n) m) s (w .accepted) (u .finishes .accepted);
+          accepted = accepted-append (step C F) (Ok C F) (eachOnce 0 (C .n)) (frames (C .n) m) s (w .accepted) (u .finishes .accepted);
           done = rw run-append (u .finishes .done);
         };
-        made-is = rw run-append (glue t s s₁ (run (step C) s₁ (frames (C .n) m)) (pass C 0 (C .n) (first (from t s))) (frameByFrame C m)
+        made-is = rw run-append (glue t s s₁ (run (step C F) s₁ (frames (C .n) m)) (pass C (moment t F) 0 (C .n) (first (from t s))) (frameByFrameFrom C F (suc t) m)
             (w .made-is) (w .after) (u .before (t * 2) 2 (omega arith)) (u .made-is));
         before = λ a n l. rw run-append (u .before a n (omega arith) ∙ w .before a n l);
       }
@@ -65,8 +65,8 @@ module _ {X H : Type 0} (C : Chain X H) (Fits : H → Type 0) (Sized : ℕ → H
   pub frames-whole : (s : State X H) → Inv C Fits F s → Done C 0 s → Whole C F s (frames (C .n) F)
   frames-whole s v z = record { fresh = z; finishes = rendered F 0 s (omega arith) v z .finishes }
 
-  pub frame-by-frame : (xs : List ℕ) (s : State X H) → Inv C Fits F s → Whole C F s xs → run (step C) s xs ≡ run (step C) s (frames (C .n) F)
+  pub frame-by-frame : (xs : List ℕ) (s : State X H) → Inv C Fits F s → Whole C F s xs → run (step C F) s xs ≡ run (step C F) s (frames (C .n) F)
   frame-by-frame xs s v w = finishes-agree C Fits Sized L F xs (frames (C .n) F) s v (w .finishes) (frames-whole s v (w .fresh) .finishes)
 
-  pub order-renders : (xs : List ℕ) (s : State X H) → Inv C Fits F s → Whole C F s xs → from 0 (run (step C) s xs) ≡ frameByFrame C F (from 0 s)
+  pub order-renders : (xs : List ℕ) (s : State X H) → Inv C Fits F s → Whole C F s xs → from 0 (run (step C F) s xs) ≡ frameByFrame C F (from 0 s)
   order-renders xs s v w = ap (from 0) (frame-by-frame xs s v w) ∙ rendered F 0 s (omega arith) v (w .fresh) .made-is

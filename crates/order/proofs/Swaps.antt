@@ -5,15 +5,15 @@ use mathlib.Core.Logic.{_≢_}
 use Prim.Native.Nat.{ℕ, suc, _-_, _*_, _<_}
 use native.Mathlib.Omega.{arith}
 use native.Mathlib.Decide.{decLt}
-use lib.Seq.{getD-set-other, set-comm}
-use Rattle.order.specs.Stretch.{part, splice}
+use lib.Seq.{set-comm}
+use Rattle.order.specs.Stretch.{splice}
 use Rattle.order.specs.Chain.{State, Chain, at, out, put, step, Ok, Made, Local, Inv}
 use Rattle.order.proofs.Stretches.{part-before, part-after, splice-comm}
 use Rattle.order.proofs.Diamond.{Diamond}
 use Rattle.order.proofs.OneStep.{made, at-step, lag, one-step}
 
 module _ {X H : Type 0} (C : Chain X H) (Fits : H → Type 0) (Sized : ℕ → H → Type 0) (L : Local C Fits Sized) (F : ℕ) where
-  stay : (s : State X H) (j k : ℕ) → Inv C Fits F s → j ≢ k → Ok C F s j → Ok C F s k → Ok C F (step C j s) k
+  stay : (s : State X H) (j k : ℕ) → Inv C Fits F s → j ≢ k → Ok C F s j → Ok C F s k → Ok C F (step C F j s) k
   stay s j k v d b c =
       let e = one-step C Fits Sized L F s j v b .others k (λ q. d (sym q)) in
       record { inside = c .inside; room = omega arith; behind = λ h. omega (arith, at-step C Fits Sized L F s j v b (k - 1), c .behind h) }
@@ -21,54 +21,65 @@ module _ {X H : Type 0} (C : Chain X H) (Fits : H → Type 0) (Sized : ℕ → H
   -- ---- stage j stands before stage k
 
   module _ (s : State X H) (j k : ℕ) (h : j < k) (v : Inv C Fits F s) (b : Ok C F s j) (c : Ok C F s k) where
-    -- what one makes does not change by the other's step
-    k-later : out C k (step C j s) ≡ out C k s
-    unfolding out step put
-    k-later = λ i. C .make k (x i) (L .own-apart j k (out C j s .held) (s .held) (omega arith) (b .inside) (c .inside) (v .held) (made C Fits Sized L F s j v b .held) i)
-      where
-        x : part (at (step C j s) k * 2) 2 (step C j s .samples) ≡ part (at s k * 2) 2 (s .samples)
-        x = rw (getD-set-other (s .progress) j k (suc (at s j)) 0 (omega arith))
-            (part-before (at s k * 2) 2 (at s j * 2) (out C j s .frame) (s .samples) (omega (arith, lag C Fits Sized L F s j k h v c)) (omega arith))
+    -- one is where it was after the other's step
+    k-stays : at (step C F j s) k ≡ at s k
+    k-stays = one-step C Fits Sized L F s j v b .others k (omega arith)
 
-    j-later : out C j (step C k s) ≡ out C j s
+    j-stays : at (step C F k s) j ≡ at s j
+    j-stays = one-step C Fits Sized L F s k v c .others j (omega arith)
+
+    -- and makes what it would have made
+    k-later : out C F k (step C F j s) ≡ out C F k s
     unfolding out step put
-    j-later = λ i. C .make j (x i) (L .own-apart k j (out C k s .held) (s .held) (omega arith) (c .inside) (b .inside) (v .held) (made C Fits Sized L F s k v c .held) i)
-      where
-        x : part (at (step C k s) j * 2) 2 (step C k s .samples) ≡ part (at s j * 2) 2 (s .samples)
-        x = let m = made C Fits Sized L F s k v c .frame in
-            rw (getD-set-other (s .progress) k j (suc (at s k)) 0 (omega arith))
-            (part-after (at s j * 2) 2 (at s k * 2) (out C k s .frame) (s .samples) (omega (arith, lag C Fits Sized L F s j k h v c)) (omega arith))
+    k-later =
+        rw (
+          out,
+          k-stays,
+          part-before (at s k * 2) 2 (at s j * 2) (out C F j s .frame) (s .samples) (omega (arith, lag C Fits Sized L F s j k h v c)) (omega arith),
+          L .own-apart j k (out C F j s .held) (s .held) (omega arith) (b .inside) (c .inside) (v .held) (made C Fits Sized L F s j v b .held),
+        )
+
+    j-later : out C F j (step C F k s) ≡ out C F j s
+    unfolding out step put
+    j-later =
+        let m = made C Fits Sized L F s k v c in
+        rw (
+          out,
+          j-stays,
+          part-after (at s j * 2) 2 (at s k * 2) (out C F k s .frame) (s .samples) (omega (arith, lag C Fits Sized L F s j k h v c)) (omega arith),
+          L .own-apart k j (out C F k s .held) (s .held) (omega arith) (c .inside) (b .inside) (v .held) (m .held),
+        )
 
     -- and the two are put back in either order
-    put-comm : put C k (at s k) (out C k s) (put C j (at s j) (out C j s) s) ≡ put C j (at s j) (out C j s) (put C k (at s k) (out C k s) s)
+    put-comm : put C k (at s k) (out C F k s) (put C j (at s j) (out C F j s) s) ≡ put C j (at s j) (out C F j s) (put C k (at s k) (out C F k s) s)
     unfolding put
     put-comm = λ i. record { samples = x i; held = a i; progress = set-comm (s .progress) j k (suc (at s j)) (suc (at s k)) (omega arith) i }
       where
-        mj : Made C Fits Sized j (out C j s)
+        mj : Made C Fits Sized j (out C F j s)
         mj = made C Fits Sized L F s j v b
 
-        mk : Made C Fits Sized k (out C k s)
+        mk : Made C Fits Sized k (out C F k s)
         mk = made C Fits Sized L F s k v c
 
-        x : splice (at s k * 2) (out C k s .frame) (splice (at s j * 2) (out C j s .frame) (s .samples)) ≡ splice (at s j * 2) (out C j s .frame) (splice (at s k * 2) (out C k s .frame) (s .samples))
-        x = splice-comm (at s k * 2) (out C k s .frame) (at s j * 2) (out C j s .frame) (s .samples) (omega (arith, mk .frame, lag C Fits Sized L F s j k h v c)) (omega (arith, mj .frame))
+        x : splice (at s k * 2) (out C F k s .frame) (splice (at s j * 2) (out C F j s .frame) (s .samples)) ≡ splice (at s j * 2) (out C F j s .frame) (splice (at s k * 2) (out C F k s .frame) (s .samples))
+        x = splice-comm (at s k * 2) (out C F k s .frame) (at s j * 2) (out C F j s .frame) (s .samples) (omega (arith, mk .frame, lag C Fits Sized L F s j k h v c)) (omega (arith, mj .frame))
 
-        a : C .put k (out C k s .held) (C .put j (out C j s .held) (s .held)) ≡ C .put j (out C j s .held) (C .put k (out C k s .held) (s .held))
-        a = sym (L .put-apart j k (out C j s .held) (out C k s .held) (s .held) h (c .inside) (v .held) (mj .held) (mk .held))
+        a : C .put k (out C F k s .held) (C .put j (out C F j s .held) (s .held)) ≡ C .put j (out C F j s .held) (C .put k (out C F k s .held) (s .held))
+        a = sym (L .put-apart j k (out C F j s .held) (out C F k s .held) (s .held) h (c .inside) (v .held) (mj .held) (mk .held))
 
-    swap-up : step C k (step C j s) ≡ step C j (step C k s)
+    swap-up : step C F k (step C F j s) ≡ step C F j (step C F k s)
     unfolding step
     swap-up =
-        ap₂ (λ p r. put C k p r (step C j s)) (one-step C Fits Sized L F s j v b .others k (omega arith)) k-later
+        ap₂ (λ p r. put C k p r (step C F j s)) k-stays k-later
         ∙ put-comm
-        ∙ sym (ap₂ (λ p r. put C j p r (step C k s)) (one-step C Fits Sized L F s k v c .others j (omega arith)) j-later)
+        ∙ sym (ap₂ (λ p r. put C j p r (step C F k s)) j-stays j-later)
 
-  swap : (s : State X H) (j k : ℕ) → Inv C Fits F s → j ≢ k → Ok C F s j → Ok C F s k → step C k (step C j s) ≡ step C j (step C k s)
+  swap : (s : State X H) (j k : ℕ) → Inv C Fits F s → j ≢ k → Ok C F s j → Ok C F s k → step C F k (step C F j s) ≡ step C F j (step C F k s)
   swap s j k v d b c = go (decLt j k)
     where
-      go : Dec (j < k) → step C k (step C j s) ≡ step C j (step C k s)
+      go : Dec (j < k) → step C F k (step C F j s) ≡ step C F j (step C F k s)
       go (yes h) = swap-up s j k h v b c
       go (no h) = sym (swap-up s k j (omega arith) v c b)
 
-  pub diamond : Diamond (step C) (Ok C F) (Inv C Fits F)
+  pub diamond : Diamond (step C F) (Ok C F) (Inv C Fits F)
   diamond = record { keep = λ s k v c. one-step C Fits Sized L F s k v c .inv; stay = stay; swap = swap }

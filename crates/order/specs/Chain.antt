@@ -18,12 +18,20 @@ pub record State (X H : Type 0) : Type 0 where
   pub held : H
   pub progress : List ℕ
 
+-- where in a block a step is: the number of its frame, from 0, and how many frames the block has
+pub record Moment : Type 0 where
+  pub frame : ℕ
+  pub frames : ℕ
+
+abbrev pub moment : ℕ → ℕ → Moment
+moment frame frames = record { frame = frame; frames = frames }
+
 -- n stages. Stage k takes its own out of what all hold, makes a frame and its own anew from them, and puts its own back
 pub record Chain (X H : Type 0) : Type 0 where
   pub n : ℕ
   pub own : ℕ → H → H
   pub put : ℕ → H → H → H
-  pub make : ℕ → List X → H → Out X H
+  pub make : ℕ → Moment → List X → H → Out X H
 
 -- may stage k, of n, take a step, in a block of F frames? Only the progress p decides: there is such a stage, it has a frame
 -- left, and the stage before it, if there is one, has done that frame
@@ -38,16 +46,16 @@ module _ {X H : Type 0} where
   at s k = getD (s .progress) k 0
 
   module _ (C : Chain X H) where
-    -- ---- a step: stage k makes its next frame, which is put where the old one was
+    -- ---- a step, in a block of F frames: stage k makes its next frame, which is put where the old one was
 
-    unfoldable pub out : ℕ → State X H → Out X H
-    out k s = C .make k (part (at s k * 2) 2 (s .samples)) (C .own k (s .held))
+    unfoldable pub out : ℕ → ℕ → State X H → Out X H
+    out F k s = C .make k (moment (at s k) F) (part (at s k * 2) 2 (s .samples)) (C .own k (s .held))
 
     unfoldable pub put : ℕ → ℕ → Out X H → State X H → State X H
     put k p r s = record { samples = splice (p * 2) (r .frame) (s .samples); held = C .put k (r .held) (s .held); progress = set (s .progress) k (suc p) }
 
-    unfoldable pub step : ℕ → State X H → State X H
-    step k s = put k (at s k) (out k s) s
+    unfoldable pub step : ℕ → ℕ → State X H → State X H
+    step F k s = put k (at s k) (out F k s) s
 
     abbrev pub Ok : ℕ → State X H → ℕ → Type 0
     Ok F s k = OkFrom (C .n) F (s .progress) k
@@ -65,11 +73,15 @@ module _ {X H : Type 0} where
 
       -- stages keep to their own: a stage's own is not changed by another's, and two are put back in either order
       pub record Local : Type 0 where
-        pub makes : (k : ℕ) (x : List X) (a : H) → k < C .n → length x ≡ 2 → Sized k a → Made k (C .make k x a)
+        pub makes : (k : ℕ) (m : Moment) (x : List X) (a : H) → k < C .n → length x ≡ 2 → Sized k a → Made k (C .make k m x a)
         pub own-sized : (k : ℕ) (h : H) → k < C .n → Fits h → Sized k (C .own k h)
         pub put-fits : (k : ℕ) (a h : H) → k < C .n → Fits h → Sized k a → Fits (C .put k a h)
         pub own-apart : (j k : ℕ) (a h : H) → j ≢ k → j < C .n → k < C .n → Fits h → Sized j a → C .own k (C .put j a h) ≡ C .own k h
         pub put-apart : (j k : ℕ) (a b h : H) → j < k → k < C .n → Fits h → Sized j a → Sized k b → C .put j a (C .put k b h) ≡ C .put k b (C .put j a h)
+
+    -- what a stage makes does not depend on where in a block it is: asked only of a chain whose blocks are to be cut
+    abbrev pub Steady : Type 0
+    Steady = (k : ℕ) (m m' : Moment) (x : List X) (a : H) → C .make k m x a ≡ C .make k m' x a
 
     -- what holds between steps, in a block of F frames: there is room for all, no stage is past the last frame, and none is
     -- ahead of one before it

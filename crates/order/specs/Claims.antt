@@ -16,10 +16,10 @@ module _ {X H : Type 0} (C : Chain X H) where
   -- z is s after a step of stage k: only the frame that stage k was at has changed, and only stage k has moved on
   pub record Stepped (Fits : H → Type 0) (F k : ℕ) (s z : State X H) : Type 0 where
     pub before : (a m : ℕ) → a + m ≤ at s k * 2 → part a m (z .samples) ≡ part a m (s .samples)
-    pub frame : part (at s k * 2) 2 (z .samples) ≡ out C k s .frame
+    pub frame : part (at s k * 2) 2 (z .samples) ≡ out C F k s .frame
     pub after : drop (suc (at s k) * 2) (z .samples) ≡ drop (suc (at s k) * 2) (s .samples)
     pub samples : length (z .samples) ≡ length (s .samples)
-    pub held : z .held ≡ C .put k (out C k s .held) (s .held)
+    pub held : z .held ≡ C .put k (out C F k s .held) (s .held)
     pub moved : at z k ≡ suc (at s k)
     pub others : (j : ℕ) → j ≢ k → at z j ≡ at s j
     pub progress : length (z .progress) ≡ length (s .progress)
@@ -35,8 +35,8 @@ module _ {X H : Type 0} (C : Chain X H) where
 
   -- an order that is accepted, and brings every stage to frame F
   pub record Finishes (F : ℕ) (s : State X H) (xs : List ℕ) : Type 0 where
-    pub accepted : Allowed (step C) (Ok C F) s xs
-    pub done : Done C F (run (step C) s xs)
+    pub accepted : Allowed (step C F) (Ok C F) s xs
+    pub done : Done C F (run (step C F) s xs)
 
   -- one that does so from a block that no stage has begun
   pub record Whole (F : ℕ) (s : State X H) (xs : List ℕ) : Type 0 where

@@ -2,7 +2,7 @@
 use mathlib.Core.List.{List, [], _∷_, _++_}
 use Prim.Native.Nat.{ℕ, zero, suc, _*_}
 use lib.ListN.{take, drop}
-use Rattle.order.specs.Chain.{Out, State, Chain}
+use Rattle.order.specs.Chain.{Out, State, Moment, moment, Chain}
 
 -- ---- the order
 
@@ -40,16 +40,23 @@ module _ {X H : Type 0} where
     unfoldable pub putBack : ℕ → Out X H → Out X H → Out X H
     putBack k q r = record { frame = q .frame; held = C .put k (q .held) (r .held) }
 
-    -- a frame through stage k
-    unfoldable pub through : ℕ → Out X H → Out X H
-    through k r = putBack k (C .make k (r .frame) (C .own k (r .held))) r
+    module _ (here : Moment) where
+      -- a frame, which is `here` in its block, through stage k
+      unfoldable pub through : ℕ → Out X H → Out X H
+      through k r = putBack k (C .make k here (r .frame) (C .own k (r .held))) r
 
-    -- a frame through m stages, from stage k on
-    unfoldable pub pass : ℕ → ℕ → Out X H → Out X H
-    pass k zero r = r
-    pass k (suc m) r = pass (suc k) m (through k r)
+      -- and through m stages, from stage k on
+      unfoldable pub pass : ℕ → ℕ → Out X H → Out X H
+      pass k zero r = r
+      pass k (suc m) r = pass (suc k) m (through k r)
 
-    -- m frames, one after another, each through all stages
-    unfoldable pub frameByFrame : ℕ → Out X H → Out X H
-    frameByFrame zero r = r
-    frameByFrame (suc m) r = followedBy (pass 0 (C .n) (first r)) (frameByFrame m (rest (pass 0 (C .n) (first r)) r))
+    -- of F frames, m from frame t on, one after another, each through all stages
+    unfoldable pub frameByFrameFrom : (F t m : ℕ) → Out X H → Out X H
+    frameByFrameFrom F t zero r = r
+    frameByFrameFrom F t (suc m) r =
+        let q = pass (moment t F) 0 (C .n) (first r) in
+        followedBy q (frameByFrameFrom F (suc t) m (rest q r))
+
+    -- all F frames
+    abbrev pub frameByFrame : ℕ → Out X H → Out X H
+    frameByFrame F r = frameByFrameFrom F 0 F r

@@ -152,8 +152,9 @@ same-length-4 c = search needs
 
 returns : tie.Need-returns
 returns c =
-    let h = here (c .before .before .before .before .before .before .before .before .before .before .before .before .before .before .before .before .before .before .before .before .before) in
-    advance-is _ _ _ _ _ _ _ _ _ _ _ _ _ _ _ _ _ (h .i-is) (h .e-is) (h .a-is) (h .b-is) (h .starts-is) (omega arith) (h .in-samples)
+    let s = c .before .before .before .before .before .before .before .before .before .before .before .before .before .before .before .before .before .before .before .before .before in
+    let h = here s in
+    advance-is _ _ _ _ (now (s .args .samples)) _ _ _ (now (s .args .progress)) _ _ _ _ _ _ _ _ (h .i-is) (h .e-is) (h .a-is) (h .b-is) (h .starts-is) (omega arith) (h .in-samples)
     (c .before .before .before .before .before .store .given .0 ∙ c .before .before .before .before .before .before .before .before .before .process-arg .given .2) (c .before .before .before .positions .given .0 ∙ c .before .before .before .before .before .before .before .before .process-arg2 .given .2) (c .before .floats .given .0 ∙ c .before .before .before .before .before .before .before .process-arg3 .given .2) (c .before .before .before .before .before .before .process .ensures)
 
 pub advance-spec : {M : Type 1} → statement M
