@@ -1,7 +1,5 @@
-pub mod Bools
 pub mod Shapes
-pub mod Rows
-pub mod Entries
+pub mod Counting
 pub mod Unrun
 pub mod Parts
 pub mod OneOutcome

@@ -1,3 +1,3 @@
 pub mod Shape
-pub mod Order
+pub mod Entries
 pub mod Refusals

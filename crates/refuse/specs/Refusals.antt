@@ -20,7 +20,7 @@ use Rattle.answer.specs.declared.Answer.{Answer}
 use Rattle.answer.specs.declared.Answer.the-variants.{Accepted, Rate, Stages, Shape, Setting, Store, Position, Samples, Frames, Progress, Sample, Entry}
 use Rattle.tops.specs.Tops.{topsOf}
 use Rattle.refuse.specs.Shape.{faulty}
-use Rattle.refuse.specs.Order.{stuck}
+use Rattle.refuse.specs.Entries.{stuck}
 
 -- ---- what the rows ask
 

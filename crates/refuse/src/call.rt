@@ -7,7 +7,7 @@ ghost use Rattle.tops.specs.Tops.{topsRecord};
 ghost use Rattle.answer.specs.declared.Answer.the-variants.{Accepted};
 ghost use Rattle.refuse.specs.Refusals.{allRows, answerOf};
 use crate::chain::check_chain;
-use crate::order::check_order;
+use crate::entries::check_order;
 use crate::samples::check_samples;
 use crate::state::check_state;
 use answer::Answer;

@@ -2,7 +2,7 @@
 // call may need alone. Anything may be passed in, and nothing is changed here.
 pub mod call;
 pub mod chain;
-pub mod order;
+pub mod entries;
 pub mod samples;
 mod shape;
 pub mod state;

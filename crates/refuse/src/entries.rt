@@ -3,7 +3,7 @@ ghost use mathlib.Core.Path.{_≡_};
 ghost use lib.ListN.{length};
 ghost use Rattle.rows.specs.First.{firstOf};
 ghost use Rattle.rows.specs.Condition.{decide};
-ghost use Rattle.refuse.specs.Order.{ruleNumber, ruleOf, stuck};
+ghost use Rattle.refuse.specs.Entries.{ruleNumber, ruleOf, stuck};
 ghost use Rattle.refuse.specs.Refusals.{orderAnswer};
 use answer::Answer;
 use memories::PLACES;

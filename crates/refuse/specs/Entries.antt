@@ -6,8 +6,8 @@ use lib.ListN.{getD, set, take}
 use Rattle.order.specs.Order.{run}
 use Rattle.rows.specs.Condition.{Condition, less, most, both, _or_}
 use Rattle.rows.specs.Rows.{Row, row, given, firstRow}
-use Rattle.refuse.specs.declared.order.Rule.{Rule}
-use Rattle.refuse.specs.declared.order.Rule.the-variants.{Kept, NoStage, AtEnd, Level}
+use Rattle.refuse.specs.declared.entries.Rule.{Rule}
+use Rattle.refuse.specs.declared.entries.Rule.the-variants.{Kept, NoStage, AtEnd, Level}
 
 -- the number with which an entry is refused that breaks the rule; 0 where it breaks none
 unfoldable pub ruleNumber : Rule → ℕ
