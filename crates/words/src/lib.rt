@@ -1,24 +1,39 @@
-// Stages out of words, five to a stage, for a caller whose language does not know `Stage`. Any words may
-// be passed in: those that are no stage are found by `first_unknown`.
+// A chain out of words, twelve to a stage, for a caller whose language does not know `Stage`. Any words
+// may be passed in: those that are no stage are found by `first_unknown`. Words that a stage does not use
+// must be 0, so that a host with another layout is told and not misread.
 ghost use mathlib.Core.Path.{_≡_};
 ghost use mathlib.Core.Bool.{_&&_};
 ghost use Prim.Native.Nat.{_+_, _*_, _<_};
-ghost use Rattle.stage.specs.First.{firstOf};
-ghost use Rattle.words.specs.Words.{isShort, shortOf, isLevel, levelOf, singleOf, isStage, lineStageOf, stageOf, wordAt, countOf, fiveAt, unknownAt, stagesOf};
+ghost use Rattle.rows.specs.First.{firstOf};
+ghost use Rattle.words.specs.Words.{isShort, shortOf, isLevel, levelOf, singleOf, layoutVersion, isStage, lineStageOf, stageOf, wordCount, wordAt, lengthFrom, countOf, stageWords, unknownAt, setupOf};
 use codes::band_at;
 use codes::clip_at;
 use codes::mode_at;
 use float::bits::from_bits_f32;
 use float::bits::from_bits_f64;
+use memories::PLACES;
 use stage::kind::Stage;
+use stage::setup::Setup;
+use stage::setup::Slot;
 
-// A stage's kind, and its numbers.
-struct Five {
+// The words of a stage.
+pub const WORDS: usize = 12;
+
+// A stage's kind and its numbers, and how many of its words there are up to the last that is not 0.
+struct StageWords {
     kind: u64,
     a: u64,
     b: u64,
     c: u64,
     d: u64,
+    length: usize,
+}
+
+// Goes up with each change of what a word means.
+pub fn layout_version() -> u32
+    ensures { λ r. ⌜ r ≡ layoutVersion ⌝ }
+{
+    1
 }
 
 fn both(a: bool, b: bool) -> bool
@@ -69,38 +84,47 @@ fn single(word: u64) -> f32
     from_bits_f32(short(word))
 }
 
-fn is_stage(w: Five) -> bool
+fn is_stage(w: StageWords) -> bool
     ensures { λ r. ⌜ r ≡ isStage w ⌝ }
 {
     if w.kind == 0 {
-        return is_level(w.a);
+        return both(w.length <= 2, is_level(w.a));
     }
     if w.kind == 1 {
-        return is_short(w.a);
+        return both(w.length <= 2, is_short(w.a));
     }
     if w.kind == 2 {
-        return both(w.a < 2, both(is_level(w.b), is_short(w.c)));
+        return both(
+            w.length <= 4,
+            both(w.a < 2, both(is_level(w.b), is_short(w.c))),
+        );
     }
     if w.kind == 3 {
-        return both(w.a < 4, is_short(w.d));
+        return both(w.length <= 5, both(w.a < 4, is_short(w.d)));
     }
     if w.kind == 4 {
-        return both(w.a < 3, is_level(w.c));
+        return both(w.length <= 5, both(w.a < 3, is_level(w.c)));
     }
     if w.kind == 5 {
         return both(
-            both(is_short(w.a), is_short(w.b)),
-            both(is_short(w.c), is_short(w.d)),
+            w.length <= 5,
+            both(
+                both(is_short(w.a), is_short(w.b)),
+                both(is_short(w.c), is_short(w.d)),
+            ),
         );
     }
     if w.kind == 6 {
-        return both(is_short(w.a), both(is_level(w.b), is_short(w.c)));
+        return both(
+            w.length <= 5,
+            both(is_short(w.a), both(is_level(w.b), is_short(w.c))),
+        );
     }
     false
 }
 
 // The kinds that hold lines: reverb and delay.
-fn line_stage_of(w: Five) -> Stage
+fn line_stage_of(w: StageWords) -> Stage
     ensures { λ r. ⌜ r ≡ lineStageOf w ⌝ }
 {
     if w.kind == 5 {
@@ -119,7 +143,7 @@ fn line_stage_of(w: Five) -> Stage
     }
 }
 
-fn stage_of(w: Five) -> Stage
+fn stage_of(w: StageWords) -> Stage
     ensures { λ r. ⌜ r ≡ stageOf w ⌝ }
 {
     if w.kind == 0 {
@@ -165,27 +189,44 @@ fn word_at(words: &[u64], i: usize) -> u64
     0
 }
 
-fn five_at(words: &[u64], i: usize) -> Five
-    requires { ⌜ 5 * i + 4 < 0x1_0000_0000_0000_0000 ⌝ }
-    ensures { λ r. ⌜ r ≡ fiveAt (now (words .entry)) i ⌝ }
+// Of the words of the stage that begins at `at`, how many there are up to the last that is not 0.
+fn length_from(words: &[u64], at: usize) -> usize
+    requires { ⌜ at + wordCount < 0x1_0000_0000_0000_0000 ⌝ }
+    ensures { λ r. ⌜ r ≡ lengthFrom (now (words .entry)) at wordCount ⌝ }
 {
-    let at = 5 * i;
-    Five {
+    let mut n = WORDS;
+    while n > 0 {
+        if word_at(words, at + (n - 1)) != 0 {
+            return n;
+        }
+        n -= 1;
+    }
+    n
+}
+
+fn stage_words(words: &[u64], i: usize) -> StageWords
+    requires { ⌜ wordCount * i + wordCount < 0x1_0000_0000_0000_0000 ⌝ }
+    ensures { λ r. ⌜ r ≡ stageWords (now (words .entry)) i ⌝ }
+{
+    let at = WORDS * i;
+    StageWords {
         kind: word_at(words, at),
         a: word_at(words, at + 1),
         b: word_at(words, at + 2),
         c: word_at(words, at + 3),
         d: word_at(words, at + 4),
+        length: length_from(words, at),
     }
 }
 
+// The first stage whose words are none, or how many stages there are.
 pub fn first_unknown(words: &[u64]) -> usize
     ensures { λ r. ⌜ r ≡ firstOf (unknownAt (now (words .entry))) (countOf (now (words .entry))) ⌝ }
 {
-    let count = words.len() / 5;
+    let count = words.len() / WORDS;
     let mut i = 0;
     while i < count {
-        if !is_stage(five_at(words, i)) {
+        if !is_stage(stage_words(words, i)) {
             return i;
         }
         i += 1;
@@ -193,16 +234,22 @@ pub fn first_unknown(words: &[u64]) -> usize
     i
 }
 
-pub fn stages_of(words: &[u64]) -> [Stage; 16]
-    ensures { λ r. ⌜ r ≡ stagesOf (now (words .entry)) ⌝ }
+// Stages past the last place are counted and not kept.
+pub fn setup_of(rate: u32, words: &[u64]) -> Setup
+    ensures { λ r. ⌜ r ≡ setupOf rate (now (words .entry)) ⌝ }
 {
-    let none = Stage::VolumeControl { volume: 0 };
-    let mut stages = [none; 16];
+    let stage = Stage::VolumeControl { volume: 0 };
+    let unused = Slot { stage };
+    let mut slots = [unused; PLACES];
     let mut i = 0;
-    while i < 16 {
-        let stage = stage_of(five_at(words, i));
-        stages[i] = stage;
+    while i < PLACES {
+        let stage = stage_of(stage_words(words, i));
+        slots[i] = Slot { stage };
         i += 1;
     }
-    stages
+    Setup {
+        rate,
+        count: words.len() / WORDS,
+        slots,
+    }
 }
