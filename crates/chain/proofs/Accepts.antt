@@ -13,9 +13,9 @@ use Rattle.order.specs.Chain.{State, Chain, OkFrom, Ok, step, put, out}
 use Rattle.order.proofs.Falls.{falls-from-next}
 use Rattle.order.specs.Claims.{Stepped}
 use Rattle.order.proofs.OneStep.{one-step, made}
-use Rattle.stage.specs.declared.kind.Stage.{Stage}
+use Rattle.stage.specs.declared.setup.Setup.{Setup}
 use Rattle.tops.specs.Tops.{topAt, topsOf}
-use Rattle.table.specs.Table.{tick}
+use Rattle.refuse.specs.Entries.{tick}
 use Rattle.table.proofs.Clear.{Clear}
 use Rattle.tops.proofs.TopStages.{tops-le-16, top-le, top-next}
 use Rattle.chain.specs.Chain.{Room, chainOf, framesOf, Ready, Orderly, stepped, ordered}
@@ -25,8 +25,8 @@ use Rattle.chain.proofs.ChainLocal.{Sized, chain-local}
 use Rattle.chain.proofs.Stays.{still-finite, still-found}
 
 -- no row of the table applies to this call
-abbrev pub ClearOn : ℕ → List Stage → ℕ → State Float Held → List ℕ → Type 0
-ClearOn rate l c s order = Clear rate l c (length (s .held .store)) (s .samples) (s .held .positions) (s .progress) order
+abbrev pub ClearOn : Setup → State Float Held → List ℕ → Type 0
+ClearOn setup s order = Clear setup (length (s .held .store)) (s .samples) (s .held .positions) (s .progress) order
 
 -- ---- entries that may be run by their progress alone are an accepted order of the chain, and back
 module _ {X H : Type 0} (C : Chain X H) (F : ℕ) where
@@ -42,45 +42,45 @@ module _ {X H : Type 0} (C : Chain X H) (F : ℕ) where
   orderly→runs [] s a = tt
   orderly→runs (k ∷ ks) s a = (a .0, subst (λ (p : List ℕ). Allowed tick (OkFrom (C .n) F) p ks) (sym (ticked k s)) (orderly→runs ks (step C F k s) (a .1)))
 
-module _ (rate : ℕ) (l : List Stage) (c : ℕ) where
-  pub ready : (s : State Float Held) (order : List ℕ) → Arrays s → ClearOn rate l c s order → Ready rate l c s
+module _ (setup : Setup) where
+  pub ready : (s : State Float Held) (order : List ℕ) → Arrays s → ClearOn setup s order → Ready setup s
   ready s order a z = record {
     samples = omega arith;
     held = record { store = z .room; positions = omega (arith, a .positions, z .few); floats = omega (arith, a .floats, z .few) };
-    stages = omega (arith, tops-le-16 l c, a .progress);
+    stages = omega (arith, tops-le-16 setup, a .progress);
     within = z .within;
-    falls = falls-from-next (topsOf l c) (s .progress) (λ k h g. z .falls k g h);
+    falls = falls-from-next (topsOf setup) (s .progress) (λ k h g. z .falls k g h);
   }
 
-  pub orderly : (s : State Float Held) (order : List ℕ) → ClearOn rate l c s order → Orderly rate l c s order
-  orderly s order z = runs→orderly (chainOf rate l c) (framesOf (s .samples)) order s (z .runs)
+  pub orderly : (s : State Float Held) (order : List ℕ) → ClearOn setup s order → Orderly setup s order
+  orderly s order z = runs→orderly (chainOf setup) (framesOf (s .samples)) order s (z .runs)
 
   -- another order that may be run from there is clear too
-  pub clear-with : (s : State Float Held) (xs ys : List ℕ) → ClearOn rate l c s xs → Orderly rate l c s ys → ClearOn rate l c s ys
-  clear-with s xs ys z o = record { slow = z .slow; fast = z .fast; few = z .few; shapes = z .shapes; settings = z .settings; room = z .room; found = z .found; even = z .even; short = z .short; within = z .within; falls = z .falls; finite = z .finite; runs = orderly→runs (chainOf rate l c) (framesOf (s .samples)) ys s o }
+  pub clear-with : (s : State Float Held) (xs ys : List ℕ) → ClearOn setup s xs → Orderly setup s ys → ClearOn setup s ys
+  clear-with s xs ys z o = record { slow = z .slow; fast = z .fast; few = z .few; shapes = z .shapes; settings = z .settings; room = z .room; found = z .found; even = z .even; short = z .short; within = z .within; falls = z .falls; finite = z .finite; runs = orderly→runs (chainOf setup) (framesOf (s .samples)) ys s o }
 
   -- ---- after a step of the first entry the others are clear
-  module _ (s : State Float Held) (k : ℕ) (order : List ℕ) (a : Arrays s) (z : ClearOn rate l c s (k ∷ order)) where
-    v : Ready rate l c s
+  module _ (s : State Float Held) (k : ℕ) (order : List ℕ) (a : Arrays s) (z : ClearOn setup s (k ∷ order)) where
+    v : Ready setup s
     v = ready s (k ∷ order) a z
 
-    w : Stepped (chainOf rate l c) (Room rate l c) (framesOf (s .samples)) k s (stepped rate l c k s)
-    w = one-step (chainOf rate l c) (Room rate l c) (Sized rate l c) (chain-local rate l c) (framesOf (s .samples)) s k v (z .runs .0)
+    w : Stepped (chainOf setup) (Room setup) (framesOf (s .samples)) k s (stepped setup k s)
+    w = one-step (chainOf setup) (Room setup) (Sized setup) (chain-local setup) (framesOf (s .samples)) s k v (z .runs .0)
 
-    held-same : Same (stepped rate l c k s .held) (s .held)
+    held-same : Same (stepped setup k s .held) (s .held)
     held-same =
         subst (λ (h : Held). Same h (s .held)) (sym (w .held))
-        (replaced-same rate l c (s .held) (v .held) (topAt l c k) (topAt l c (suc k)) (top-next l c k) (top-le l c (suc k)) (out (chainOf rate l c) (framesOf (s .samples)) k s .held)
-        (made (chainOf rate l c) (Room rate l c) (Sized rate l c) (chain-local rate l c) (framesOf (s .samples)) s k v (z .runs .0) .held))
+        (replaced-same setup (s .held) (v .held) (topAt setup k) (topAt setup (suc k)) (top-next setup k) (top-le setup (suc k)) (out (chainOf setup) (framesOf (s .samples)) k s .held)
+        (made (chainOf setup) (Room setup) (Sized setup) (chain-local setup) (framesOf (s .samples)) s k v (z .runs .0) .held))
 
     -- an order that begins with k is that step, and then the rest of it
-    pub step-first : (xs : List ℕ) → ordered rate l c (stepped rate l c k s) xs ≡ ordered rate l c s (k ∷ xs)
+    pub step-first : (xs : List ℕ) → ordered setup (stepped setup k s) xs ≡ ordered setup s (k ∷ xs)
     step-first xs = rw (w .samples)
 
-    pub arrays-stay : Arrays (stepped rate l c k s)
+    pub arrays-stay : Arrays (stepped setup k s)
     arrays-stay = record { positions = held-same .positions ∙ a .positions; floats = held-same .floats ∙ a .floats; progress = w .progress ∙ a .progress }
 
-    pub clear-stays : ClearOn rate l c (stepped rate l c k s) order
+    pub clear-stays : ClearOn setup (stepped setup k s) order
     clear-stays = record {
       slow = z .slow;
       fast = z .fast;
@@ -88,16 +88,16 @@ module _ (rate : ℕ) (l : List Stage) (c : ℕ) where
       shapes = z .shapes;
       settings = z .settings;
       room = omega (arith, held-same .store, z .room);
-      found = still-found rate l c s k v (z .runs .0) (z .found);
+      found = still-found setup s k v (z .runs .0) (z .found);
       even = rw (w .samples) (z .even);
       short = rw (w .samples) (z .short);
       within = λ j h. rw (w .samples) (w .inv .within j h);
       falls = λ j h g. w .inv .falls (j - 1) j (omega arith) h;
-      finite = still-finite rate l c s k v (z .runs .0) (z .finite);
-      runs = rw (w .samples) (subst (λ (p : List ℕ). Allowed tick (OkFrom (topsOf l c) (framesOf (s .samples))) p order) (ticked (chainOf rate l c) (framesOf (s .samples)) k s) (z .runs .1));
+      finite = still-finite setup s k v (z .runs .0) (z .finite);
+      runs = rw (w .samples) (subst (λ (p : List ℕ). Allowed tick (OkFrom (topsOf setup) (framesOf (s .samples))) p order) (ticked (chainOf setup) (framesOf (s .samples)) k s) (z .runs .1));
     }
 
   -- after any part of it, the rest is
-  pub clear-after : (xs ys : List ℕ) (s : State Float Held) → Arrays s → ClearOn rate l c s (xs ++ ys) → Arrays (ordered rate l c s xs) × ClearOn rate l c (ordered rate l c s xs) ys
+  pub clear-after : (xs ys : List ℕ) (s : State Float Held) → Arrays s → ClearOn setup s (xs ++ ys) → Arrays (ordered setup s xs) × ClearOn setup (ordered setup s xs) ys
   clear-after [] ys s a z = (a, z)
-  clear-after (k ∷ xs) ys s a z = rw (step-first s k (xs ++ ys) a z xs) at (clear-after xs ys (stepped rate l c k s) (arrays-stay s k (xs ++ ys) a z) (clear-stays s k (xs ++ ys) a z))
+  clear-after (k ∷ xs) ys s a z = rw (step-first s k (xs ++ ys) a z xs) at (clear-after xs ys (stepped setup k s) (arrays-stay s k (xs ++ ys) a z) (clear-stays s k (xs ++ ys) a z))

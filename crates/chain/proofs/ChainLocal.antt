@@ -8,7 +8,7 @@ use native.Mathlib.Decide.{decLt}
 use Rattle.line.specs.Held.{Held}
 use Rattle.line.proofs.Keeps.{Same}
 use Rattle.order.specs.Chain.{Local, Steady}
-use Rattle.stage.specs.declared.kind.Stage.{Stage}
+use Rattle.stage.specs.declared.setup.Setup.{Setup}
 use Rattle.stage.specs.Layout.{startsOf}
 use Rattle.apart.proofs.Keeps.{place-keeps}
 use Rattle.tops.specs.Tops.{topAt}
@@ -16,31 +16,31 @@ use Rattle.tops.proofs.TopStages.{top-le, top-next, top-mono}
 use Rattle.chain.specs.Chain.{stretch, replaced, Room, chainOf}
 use Rattle.chain.proofs.Stretches.{Fills, stretch-fills, replaced-room, stretch-later, stretch-earlier, replaced-comm}
 
-module _ (rate : ℕ) (l : List Stage) (c : ℕ) where
+module _ (setup : Setup) where
   -- just what top stage k and the stages that it owns hold
   abbrev pub Sized : ℕ → Held → Type 0
-  Sized k a = Fills rate l (topAt l c k) (topAt l c (suc k)) a
+  Sized k a = Fills setup (topAt setup k) (topAt setup (suc k)) a
 
-  pub same-fills : (i e : ℕ) (a b : Held) → Same a b → Fills rate l i e b → Fills rate l i e a
+  pub same-fills : (i e : ℕ) (a b : Held) → Same a b → Fills setup i e b → Fills setup i e a
   same-fills i e a b s f = record { store = s .store ∙ f .store; positions = s .positions ∙ f .positions; floats = s .floats ∙ f .floats }
 
-  module _ (h : Held) (r : Room rate l c h) where
-    apart : (j k : ℕ) (a : Held) → j ≢ k → Sized j a → stretch rate l (topAt l c k) (topAt l c (suc k)) (replaced rate l (topAt l c j) a h) ≡ stretch rate l (topAt l c k) (topAt l c (suc k)) h
+  module _ (h : Held) (r : Room setup h) where
+    apart : (j k : ℕ) (a : Held) → j ≢ k → Sized j a → stretch setup (topAt setup k) (topAt setup (suc k)) (replaced setup (topAt setup j) a h) ≡ stretch setup (topAt setup k) (topAt setup (suc k)) h
     apart j k a d f = go (decLt j k)
       where
-        go : Dec (j < k) → stretch rate l (topAt l c k) (topAt l c (suc k)) (replaced rate l (topAt l c j) a h) ≡ stretch rate l (topAt l c k) (topAt l c (suc k)) h
-        go (yes q) = stretch-later rate l c h r (topAt l c j) (topAt l c (suc j)) (top-next l c j) (top-le l c (suc j)) a f (topAt l c k) (topAt l c (suc k)) (top-mono l c (suc j) k (omega arith))
-        go (no q) = stretch-earlier rate l c h r (topAt l c j) (topAt l c (suc j)) (top-next l c j) (top-le l c (suc j)) a f (topAt l c k) (topAt l c (suc k)) (top-next l c k) (top-mono l c (suc k) j (omega arith))
+        go : Dec (j < k) → stretch setup (topAt setup k) (topAt setup (suc k)) (replaced setup (topAt setup j) a h) ≡ stretch setup (topAt setup k) (topAt setup (suc k)) h
+        go (yes q) = stretch-later setup h r (topAt setup j) (topAt setup (suc j)) (top-next setup j) (top-le setup (suc j)) a f (topAt setup k) (topAt setup (suc k)) (top-mono setup (suc j) k (omega arith))
+        go (no q) = stretch-earlier setup h r (topAt setup j) (topAt setup (suc j)) (top-next setup j) (top-le setup (suc j)) a f (topAt setup k) (topAt setup (suc k)) (top-next setup k) (top-mono setup (suc k) j (omega arith))
 
-  pub chain-local : Local (chainOf rate l c) (Room rate l c) Sized
+  pub chain-local : Local (chainOf setup) (Room setup) Sized
   chain-local = record {
-    makes = λ k m x a h q f. record { frame = refl; held = same-fills (topAt l c k) (topAt l c (suc k)) _ a (place-keeps rate l (startsOf rate l) (topAt l c k) (topAt l c (suc k)) _) f };
-    own-sized = λ k h q r. stretch-fills rate l c h r (topAt l c k) (topAt l c (suc k)) (top-next l c k) (top-le l c (suc k));
-    put-fits = λ k a h q r f. replaced-room rate l c h r (topAt l c k) (topAt l c (suc k)) (top-next l c k) (top-le l c (suc k)) a f;
+    makes = λ k m x a h q f. record { frame = refl; held = same-fills (topAt setup k) (topAt setup (suc k)) _ a (place-keeps setup (startsOf setup) (topAt setup k) (topAt setup (suc k)) _) f };
+    own-sized = λ k h q r. stretch-fills setup h r (topAt setup k) (topAt setup (suc k)) (top-next setup k) (top-le setup (suc k));
+    put-fits = λ k a h q r f. replaced-room setup h r (topAt setup k) (topAt setup (suc k)) (top-next setup k) (top-le setup (suc k)) a f;
     own-apart = λ j k a h d p q r f. apart h r j k a d f;
-    put-apart = λ j k a b h q p r f g. replaced-comm rate l c h r (topAt l c j) (topAt l c (suc j)) (top-next l c j) (top-le l c (suc j)) a f (topAt l c k) (topAt l c (suc k)) b (top-mono l c (suc j) k (omega arith)) (top-next l c k) (top-le l c (suc k)) g;
+    put-apart = λ j k a b h q p r f g. replaced-comm setup h r (topAt setup j) (topAt setup (suc j)) (top-next setup j) (top-le setup (suc j)) a f (topAt setup k) (topAt setup (suc k)) b (top-mono setup (suc j) k (omega arith)) (top-next setup k) (top-le setup (suc k)) g;
   }
 
   -- no stage reads where in a block it is
-  pub chain-steady : Steady (chainOf rate l c)
+  pub chain-steady : Steady (chainOf setup)
   chain-steady k m m' x a = refl

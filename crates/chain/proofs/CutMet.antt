@@ -13,7 +13,8 @@ use Rattle.order.specs.Chain.{State}
 use Rattle.order.specs.Finish.{finishing}
 use Rattle.order.specs.Claims.{begin, Cut}
 use Rattle.order.proofs.Cuts.{cut-parts}
-use Rattle.stage.specs.declared.kind.Stage.{Stage}
+use Rattle.memories.specs.Sizes.{places}
+use Rattle.stage.specs.declared.setup.Setup.{Setup}
 use Rattle.tops.specs.Tops.{topsOf}
 use Rattle.tops.proofs.TopStages.{tops-le-16}
 use Rattle.refuse.proofs.Unrun.{unrun-most}
@@ -24,12 +25,12 @@ use Rattle.chain.proofs.Accepts.{ClearOn, ready, clear-with, clear-afte
 use Rattle.chain.proofs.Running.{clear, left-is, rendered-is}
 use Rattle.chain.proofs.DemandsMet.{taken, whole, finishing-taken, finishing-is}
 
-module _ (rate : ℕ) (l : List Stage) (c : ℕ) where
+module _ (setup : Setup) where
   -- an unstarted block with the samples of part of a clear one, and with lines and memories of a clear one, is clear
-  part-clear : (s r z : State Float Held) → ClearOn rate l c s [] → AllAt rate l c 0 s → ClearOn rate l c r [] → AllAt rate l c 0 z → z .held ≡ r .held
+  part-clear : (s r z : State Float Held) → ClearOn setup s [] → AllAt setup 0 s → ClearOn setup r [] → AllAt setup 0 z → z .held ≡ r .held
       → length (z .samples) % 2 ≡ 0 → length (z .samples) ≤ length (s .samples)
       → (d : ℕ) → d + length (z .samples) ≤ length (s .samples) → ((i : ℕ) → i < length (z .samples) → getD (z .samples) i nan ≡ getD (s .samples) (d + i) nan)
-      → ClearOn rate l c z []
+      → ClearOn setup z []
   part-clear s r z cs fs cr fz e even short d fits same = record {
     slow = cs .slow;
     fast = cs .fast;
@@ -42,22 +43,22 @@ module _ (rate : ℕ) (l : List Stage) (c : ℕ) where
     short = omega (arith, cs .short);
     within = λ k h. omega (arith, fz k h);
     falls = λ k h g. omega (arith, fz k h);
-    finite = λ i h g. ap finiteOf (same i g) ∙ cs .finite (d + i) (omega (arith, unrun-most (topsOf l c) (s .progress) 0 (λ q. omega (arith, fs 0 q)))) (omega arith);
+    finite = λ i h g. ap finiteOf (same i g) ∙ cs .finite (d + i) (omega (arith, unrun-most (topsOf setup) (s .progress) 0 (λ q. omega (arith, fs 0 q)))) (omega arith);
     runs = tt;
   }
 
 -- ---- a block s of xs and ys, cut after xs: both parts are clear
-module _ (rate : ℕ) (l : List Stage) (c n : ℕ) (xs ys : List Float) (h : Held) (p p₁ p₂ : List ℕ) (k : length xs ≡ n * 2)
-    (ar : Arrays (begin (xs ++ ys) h p)) (l₁ : length p₁ ≡ 16) (l₂ : length p₂ ≡ 16) (t : Taken rate l c (begin (xs ++ ys) h p) [])
-    (fresh : AllAt rate l c 0 (begin (xs ++ ys) h p)) (fresh₁ : AllAt rate l c 0 (begin xs h p₁)) where
+module _ (setup : Setup) (n : ℕ) (xs ys : List Float) (h : Held) (p p₁ p₂ : List ℕ) (k : length xs ≡ n * 2)
+    (ar : Arrays (begin (xs ++ ys) h p)) (l₁ : length p₁ ≡ places) (l₂ : length p₂ ≡ places) (t : Taken setup (begin (xs ++ ys) h p) [])
+    (fresh : AllAt setup 0 (begin (xs ++ ys) h p)) (fresh₁ : AllAt setup 0 (begin xs h p₁)) where
   abbrev s : State Float Held
   s = begin (xs ++ ys) h p
 
   abbrev s₁ : State Float Held
   s₁ = begin xs h p₁
 
-  whole-clear : ClearOn rate l c s []
-  whole-clear = clear rate l c s [] t
+  whole-clear : ClearOn setup s []
+  whole-clear = clear setup s [] t
 
   long : length (xs ++ ys) ≡ n * 2 + length ys
   long = length-append xs ys ∙ ap (λ (m : ℕ). m + length ys) k
@@ -65,85 +66,85 @@ module _ (rate : ℕ) (l : List Stage) (c n : ℕ) (xs ys : List Float) (h : Hel
   even : length (xs ++ ys) % 2 ≡ 0
   even = whole-clear .even
 
-  first-clear : ClearOn rate l c s₁ []
-  first-clear = part-clear rate l c s s s₁ whole-clear fresh whole-clear fresh₁ refl (omega arith) (omega (arith, long)) 0 (omega (arith, long)) (λ i g. sym (ap (λ (m : ℕ). getD (xs ++ ys) m nan) (zero-add i) ∙ List·getD-append xs ys nan i g))
+  first-clear : ClearOn setup s₁ []
+  first-clear = part-clear setup s s s₁ whole-clear fresh whole-clear fresh₁ refl (omega arith) (omega (arith, long)) 0 (omega (arith, long)) (λ i g. sym (ap (λ (m : ℕ). getD (xs ++ ys) m nan) (zero-add i) ∙ List·getD-append xs ys nan i g))
 
   first-arrays : Arrays s₁
   first-arrays = record { positions = ar .positions; floats = ar .floats; progress = l₁ }
 
   -- the second part begins with what an order left of the first
-  module _ (a : List ℕ) (o : Orderly rate l c s₁ a) (fresh₂ : AllAt rate l c 0 (begin ys (ordered rate l c s₁ a .held) p₂)) where
+  module _ (a : List ℕ) (o : Orderly setup s₁ a) (fresh₂ : AllAt setup 0 (begin ys (ordered setup s₁ a .held) p₂)) where
     abbrev r : State Float Held
-    r = ordered rate l c s₁ a
+    r = ordered setup s₁ a
 
     abbrev s₂ : State Float Held
     s₂ = begin ys (r .held) p₂
 
-    after : Arrays r × ClearOn rate l c r []
-    after = clear-after rate l c a [] s₁ first-arrays (clear-with rate l c s₁ [] (a ++ []) first-clear (subst (λ (o : List ℕ). Orderly rate l c s₁ o) (sym (append-nil a)) o))
+    after : Arrays r × ClearOn setup r []
+    after = clear-after setup a [] s₁ first-arrays (clear-with setup s₁ [] (a ++ []) first-clear (subst (λ (o : List ℕ). Orderly setup s₁ o) (sym (append-nil a)) o))
 
-    second-clear : ClearOn rate l c s₂ []
-    second-clear = part-clear rate l c s r s₂ whole-clear fresh (after .1) fresh₂ refl (omega (arith, long, even)) (omega (arith, long)) (n * 2) (omega (arith, long)) (λ i g. sym (ap (λ (m : ℕ). getD (xs ++ ys) (m + i) nan) (sym k) ∙ getD-append-add xs ys i nan))
+    second-clear : ClearOn setup s₂ []
+    second-clear = part-clear setup s r s₂ whole-clear fresh (after .1) fresh₂ refl (omega (arith, long, even)) (omega (arith, long)) (n * 2) (omega (arith, long)) (λ i g. sym (ap (λ (m : ℕ). getD (xs ++ ys) (m + i) nan) (sym k) ∙ getD-append-add xs ys i nan))
 
     second-arrays : Arrays s₂
     second-arrays = record { positions = after .0 .positions; floats = after .0 .floats; progress = l₂ }
 
     -- and three orders that finish leave the same
-    parts : (e b : List ℕ) → Finishing rate l c s e → Finishing rate l c s₁ a → Finishing rate l c s₂ b → Cut (ordered rate l c s e) (ordered rate l c s₁ a) (ordered rate l c s₂ b)
+    parts : (e b : List ℕ) → Finishing setup s e → Finishing setup s₁ a → Finishing setup s₂ b → Cut (ordered setup s e) (ordered setup s₁ a) (ordered setup s₂ b)
     parts e b fe fa fb =
         let f : length xs ≡ framesOf xs * 2 = omega arith in
         let g : framesOf (xs ++ ys) ≡ framesOf xs + framesOf ys = rw (long, k) (omega arith) in
         rw g
-        (cut-parts (chainOf rate l c) (Room rate l c) (Sized rate l c) (chain-local rate l c) (chain-steady rate l c) (framesOf xs) (framesOf ys) s s₁ s₂ e a b f refl refl refl
-        (rw g at (ready rate l c s [] ar whole-clear)) (rw g at (whole rate l c s e fe))
-        (ready rate l c s₁ [] first-arrays first-clear) (whole rate l c s₁ a fa)
-        (ready rate l c s₂ [] second-arrays second-clear) (whole rate l c s₂ b fb))
+        (cut-parts (chainOf setup) (Room setup) (Sized setup) (chain-local setup) (chain-steady setup) (framesOf xs) (framesOf ys) s s₁ s₂ e a b f refl refl refl
+        (rw g at (ready setup s [] ar whole-clear)) (rw g at (whole setup s e fe))
+        (ready setup s₁ [] first-arrays first-clear) (whole setup s₁ a fa)
+        (ready setup s₂ [] second-arrays second-clear) (whole setup s₂ b fb))
 
 -- what is left is the same, said of other names for it
 cut-same : {r q r₁ q₁ r₂ q₂ : State Float Held} → q ≡ r → q₁ ≡ r₁ → q₂ ≡ r₂ → Cut r r₁ r₂ → Cut q q₁ q₂
 cut-same e e₁ e₂ cut = rw (e, e₁, e₂) cut
 
 pub cut-anywhere : CutAnywhere
-cut-anywhere rate l c n xs ys h p p₁ p₂ e a b k ar l₁ l₂ t fe fa fb =
+cut-anywhere setup n xs ys h p p₁ p₂ e a b k ar l₁ l₂ t fe fa fb =
     let s = begin (xs ++ ys) h p in
     let s₁ = begin xs h p₁ in
-    let s₂ = begin ys (ordered rate l c s₁ a .held) p₂ in
-    let te = finishing-taken rate l c s e (whole-clear rate l c n xs ys h p p₁ p₂ k ar l₁ l₂ t (fe .fresh) (fa .fresh)) fe in
-    let ta = finishing-taken rate l c s₁ a (first-clear rate l c n xs ys h p p₁ p₂ k ar l₁ l₂ t (fe .fresh) (fa .fresh)) fa in
-    let tb = finishing-taken rate l c s₂ b (second-clear rate l c n xs ys h p p₁ p₂ k ar l₁ l₂ t (fe .fresh) (fa .fresh) a (fa .orderly) (fb .fresh)) fb in
-    let left = left-is rate l c s₁ a ta in
-    subst (λ (x : Held). CutAt rate l c s s₁ (begin ys x p₂) e a b) (ap (λ (w : State Float Held). w .held) (sym left))
+    let s₂ = begin ys (ordered setup s₁ a .held) p₂ in
+    let te = finishing-taken setup s e (whole-clear setup n xs ys h p p₁ p₂ k ar l₁ l₂ t (fe .fresh) (fa .fresh)) fe in
+    let ta = finishing-taken setup s₁ a (first-clear setup n xs ys h p p₁ p₂ k ar l₁ l₂ t (fe .fresh) (fa .fresh)) fa in
+    let tb = finishing-taken setup s₂ b (second-clear setup n xs ys h p p₁ p₂ k ar l₁ l₂ t (fe .fresh) (fa .fresh) a (fa .orderly) (fb .fresh)) fb in
+    let left = left-is setup s₁ a ta in
+    subst (λ (x : Held). CutAt setup s s₁ (begin ys x p₂) e a b) (ap (λ (w : State Float Held). w .held) (sym left))
     (record {
       taken = te;
       first-taken = ta;
       second-taken = tb;
-      same = cut-same (left-is rate l c s e te) left (left-is rate l c s₂ b tb) (parts rate l c n xs ys h p p₁ p₂ k ar l₁ l₂ t (fe .fresh) (fa .fresh) a (fa .orderly) (fb .fresh) e b fe fa fb);
+      same = cut-same (left-is setup s e te) left (left-is setup s₂ b tb) (parts setup n xs ys h p p₁ p₂ k ar l₁ l₂ t (fe .fresh) (fa .fresh) a (fa .orderly) (fb .fresh) e b fe fa fb);
     })
 
 -- ---- rendered, from progress zero
 
 pub render-cut-anywhere : RenderCutAnywhere
-render-cut-anywhere rate l c n xs ys h p k ar fresh t =
-    let zero : List ℕ = replicate 16 0 in
+render-cut-anywhere setup n xs ys h p k ar fresh t =
+    let zero : List ℕ = replicate places 0 in
     let s = begin (xs ++ ys) h p in
     let s₁ = begin xs h zero in
-    let none : AllAt rate l c 0 s₁ = λ j q. getD-replicate 16 j 0 0 (omega (arith, tops-le-16 l c)) in
-    let a = finishing (topsOf l c) (framesOf xs) zero in
-    let cs = clear rate l c s [] t in
-    let c₁ = first-clear rate l c n xs ys h p zero zero k ar refl refl t fresh none in
-    let a₁ = first-arrays rate l c n xs ys h p zero zero k ar refl refl t fresh none in
-    let fe = finishing-is rate l c s ar cs fresh in
-    let fa = finishing-is rate l c s₁ a₁ c₁ none in
-    let s₂ = begin ys (ordered rate l c s₁ a .held) zero in
-    let c₂ = second-clear rate l c n xs ys h p zero zero k ar refl refl t fresh none a (fa .orderly) none in
-    let a₂ = second-arrays rate l c n xs ys h p zero zero k ar refl refl t fresh none a (fa .orderly) none in
-    let fb = finishing-is rate l c s₂ a₂ c₂ none in
-    let t₁ = taken rate l c s₁ [] c₁ in
-    let t₂ = taken rate l c s₂ [] c₂ in
-    let left = rendered-is rate l c s₁ t₁ in
-    subst (λ (x : Held). RenderCut rate l c s s₁ (begin ys x zero)) (ap (λ (w : State Float Held). w .held) (sym left))
+    let none : AllAt setup 0 s₁ = λ j q. getD-replicate places j 0 0 (omega (arith, tops-le-16 setup)) in
+    let a = finishing (topsOf setup) (framesOf xs) zero in
+    let cs = clear setup s [] t in
+    let c₁ = first-clear setup n xs ys h p zero zero k ar refl refl t fresh none in
+    let a₁ = first-arrays setup n xs ys h p zero zero k ar refl refl t fresh none in
+    let fe = finishing-is setup s ar cs fresh in
+    let fa = finishing-is setup s₁ a₁ c₁ none in
+    let s₂ = begin ys (ordered setup s₁ a .held) zero in
+    let c₂ = second-clear setup n xs ys h p zero zero k ar refl refl t fresh none a (fa .orderly) none in
+    let a₂ = second-arrays setup n xs ys h p zero zero k ar refl refl t fresh none a (fa .orderly) none in
+    let fb = finishing-is setup s₂ a₂ c₂ none in
+    let t₁ = taken setup s₁ [] c₁ in
+    let t₂ = taken setup s₂ [] c₂ in
+    let left = rendered-is setup s₁ t₁ in
+    subst (λ (x : Held). RenderCut setup s s₁ (begin ys x zero)) (ap (λ (w : State Float Held). w .held) (sym left))
     (record {
       first-taken = t₁;
       second-taken = t₂;
-      same = cut-same (rendered-is rate l c s t) left (rendered-is rate l c s₂ t₂) (parts rate l c n xs ys h p zero zero k ar refl refl t fresh none a (fa .orderly) none _ _ fe fa fb);
+      same = cut-same (rendered-is setup s t) left (rendered-is setup s₂ t₂) (parts setup n xs ys h p zero zero k ar refl refl t fresh none a (fa .orderly) none _ _ fe fa fb);
     })

@@ -11,7 +11,9 @@ use Rattle.frame.specs.declared.Frame.{Frame}
 use Rattle.line.specs.Held.{Held, holds, Ran, ran}
 use Rattle.order.specs.Stretch.{part, splice}
 use Rattle.order.specs.Chain.{State, at, step, put, out}
-use Rattle.stage.specs.declared.kind.Stage.{Stage}
+use Rattle.stage.specs.declared.setup.Setup.{Setup}
+use Rattle.memories.specs.Sizes.{placePositions, placeFloats}
+use Rattle.stage.specs.Setup.{usedOf}
 use Rattle.stage.specs.Layout.{startOf, startsOf}
 use Rattle.stage.proofs.Starts.{starts-at, start-le}
 use Rattle.step.specs.Step.{processAt}
@@ -22,7 +24,7 @@ use Rattle.chain.specs.Chain.{stretch, replaced, state, Ready, May, step
 
 -- ---- where top stage k lies: at the places from i up to e, its lines from a up to b
 
-module _ (rate : ℕ) (l : List Stage) (c k : ℕ) (starts places : List ℕ) (s : State Float Held) where
+module _ (setup : Setup) (k : ℕ) (starts places : List ℕ) (s : State Float Held) where
   abbrev pub i : ℕ
   i = getD places k 0
 
@@ -31,33 +33,33 @@ module _ (rate : ℕ) (l : List Stage) (c k : ℕ) (starts places : List ℕ) (s
 
   pub record Located : Type 0 where
     pub known : k < 16
-    pub i-is : i ≡ topAt l c k
-    pub e-is : e ≡ topAt l c (suc k)
+    pub i-is : i ≡ topAt setup k
+    pub e-is : e ≡ topAt setup (suc k)
     pub some : i < e
     pub inside : e ≤ 16
-    pub a-is : getD starts i 0 ≡ startOf rate l i
-    pub b-is : getD starts e 0 ≡ startOf rate l e
-    pub starts-is : starts ≡ startsOf rate l
+    pub a-is : getD starts i 0 ≡ startOf setup i
+    pub b-is : getD starts e 0 ≡ startOf setup e
+    pub starts-is : starts ≡ startsOf setup
     pub lines : getD starts i 0 ≤ getD starts e 0
     pub in-store : getD starts e 0 ≤ length (s .held .store)
-    pub in-positions : 24 * e ≤ length (s .held .positions)
-    pub in-floats : 20 * e ≤ length (s .held .floats)
+    pub in-positions : placePositions * e ≤ length (s .held .positions)
+    pub in-floats : placeFloats * e ≤ length (s .held .floats)
     pub in-samples : 2 * at s k + 2 ≤ length (s .samples)
 
-pub located : (rate : ℕ) (l : List Stage) (c k : ℕ) (starts places : List ℕ) (s : State Float Held) → c ≤ 16 → starts ≡ startsOf rate l → places ≡ topsRecord l c .places
-    → Ready rate l c s → May rate l c s k → Located rate l c k starts places s
+pub located : (setup : Setup) (k : ℕ) (starts places : List ℕ) (s : State Float Held) → starts ≡ startsOf setup → places ≡ topsRecord setup .places
+    → Ready setup s → May setup s k → Located setup k starts places s
 unfolding topsRecord
-located rate l c k starts places s h p q r m = record {
-  known = omega (arith, tops-le-16 l c);
+located setup k starts places s p q r m = record {
+  known = omega (arith, tops-le-16 setup);
   i-is = i-is;
   e-is = e-is;
-  some = omega (arith, i-is, e-is, top-past l c k (m .inside));
+  some = omega (arith, i-is, e-is, top-past setup k (m .inside));
   inside = e16;
   a-is = a-is;
   b-is = b-is;
   starts-is = p;
-  lines = omega (arith, a-is, b-is, start-le rate l i₀ e₀ ie);
-  in-store = omega (arith, b-is, start-le rate l e₀ c ec, r .held .store);
+  lines = omega (arith, a-is, b-is, start-le setup i₀ e₀ ie);
+  in-store = omega (arith, b-is, start-le setup e₀ (usedOf setup) ec, r .held .store);
   in-positions = omega (arith, ec, r .held .positions);
   in-floats = omega (arith, ec, r .held .floats);
   in-samples = omega (arith, r .samples, m .room);
@@ -69,26 +71,26 @@ located rate l c k starts places s h p q r m = record {
     e₀ : ℕ
     e₀ = getD places (k + 1) 0
 
-    i-is : i₀ ≡ topAt l c k
-    i-is = places-at l c q k (omega (arith, m .inside))
+    i-is : i₀ ≡ topAt setup k
+    i-is = places-at setup q k (omega (arith, m .inside))
 
-    e-is : e₀ ≡ topAt l c (suc k)
-    e-is = places-at l c q (k + 1) (omega (arith, m .inside)) ∙ ap (topAt l c) (add-one k)
+    e-is : e₀ ≡ topAt setup (suc k)
+    e-is = places-at setup q (k + 1) (omega (arith, m .inside)) ∙ ap (topAt setup) (add-one k)
 
-    ec : e₀ ≤ c
-    ec = omega (arith, e-is, top-le l c (suc k))
+    ec : e₀ ≤ usedOf setup
+    ec = omega (arith, e-is, top-le setup (suc k))
 
     ie : i₀ ≤ e₀
-    ie = omega (arith, i-is, e-is, top-past l c k (m .inside))
+    ie = omega (arith, i-is, e-is, top-past setup k (m .inside))
 
     e16 : e₀ ≤ 16
     e16 = omega (arith, ec)
 
-    a-is : getD starts i₀ 0 ≡ startOf rate l i₀
-    a-is = starts-at rate l p i₀ (omega (arith, ie, e16))
+    a-is : getD starts i₀ 0 ≡ startOf setup i₀
+    a-is = starts-at setup p i₀ (omega (arith, ie, e16))
 
-    b-is : getD starts e₀ 0 ≡ startOf rate l e₀
-    b-is = starts-at rate l p e₀ e16
+    b-is : getD starts e₀ 0 ≡ startOf setup e₀
+    b-is = starts-at setup p e₀ e16
 
 -- ---- the stretches of one top stage, lent and back
 
@@ -98,16 +100,16 @@ mid a b ys xs = take a xs ++ (ys ++ drop (b - a) (drop a xs))
 mid-is : {A : Type 0} (a b : ℕ) (ys xs : List A) → length ys ≡ b - a → mid a b ys xs ≡ splice a ys xs
 mid-is a b ys xs p = rw p
 
-module _ (rate : ℕ) (l : List Stage) (i e a b : ℕ) (p : a ≡ startOf rate l i) (q : b ≡ startOf rate l e) (st fl : List Float) (po : List ℕ) where
-  lent : holds (part a (b - a) st) (part (24 * i) (24 * e - 24 * i) po) (part (20 * i) (20 * e - 20 * i) fl) ≡ stretch rate l i e (holds st po fl)
+module _ (setup : Setup) (i e a b : ℕ) (p : a ≡ startOf setup i) (q : b ≡ startOf setup e) (st fl : List Float) (po : List ℕ) where
+  lent : holds (part a (b - a) st) (part (placePositions * i) (placePositions * e - placePositions * i) po) (part (placeFloats * i) (placeFloats * e - placeFloats * i) fl) ≡ stretch setup i e (holds st po fl)
   unfolding stretch
   lent = rw (p, q)
 
-  back : (m : Held) → length (m .store) ≡ b - a → length (m .positions) ≡ 24 * e - 24 * i → length (m .floats) ≡ 20 * e - 20 * i
-      → holds (mid a b (m .store) st) (mid (24 * i) (24 * e) (m .positions) po) (mid (20 * i) (20 * e) (m .floats) fl) ≡ replaced rate l i m (holds st po fl)
+  back : (m : Held) → length (m .store) ≡ b - a → length (m .positions) ≡ placePositions * e - placePositions * i → length (m .floats) ≡ placeFloats * e - placeFloats * i
+      → holds (mid a b (m .store) st) (mid (placePositions * i) (placePositions * e) (m .positions) po) (mid (placeFloats * i) (placeFloats * e) (m .floats) fl) ≡ replaced setup i m (holds st po fl)
   unfolding replaced
   back m u v w =
-      rw (mid-is a b (m .store) st u, mid-is (24 * i) (24 * e) (m .positions) po v, mid-is (20 * i) (20 * e) (m .floats) fl w, p)
+      rw (mid-is a b (m .store) st u, mid-is (placePositions * i) (placePositions * e) (m .positions) po v, mid-is (placeFloats * i) (placeFloats * e) (m .floats) fl w, p)
 
 -- ---- a frame of the samples, read and written
 
@@ -130,37 +132,37 @@ frame-out f xs = λ t. record { left = x t; right = y t }
 
 -- ---- the whole step
 
-module _ (rate : ℕ) (l : List Stage) (c k : ℕ) (xs st fl : List Float) (po pr : List ℕ) where
+module _ (setup : Setup) (k : ℕ) (xs st fl : List Float) (po pr : List ℕ) where
   abbrev d : ℕ
   d = getD pr k 0
 
   -- what top stage k makes of its next frame and of what it holds
   abbrev made : Ran
-  made = processAt rate l (startsOf rate l) (topAt l c k) (topAt l c (suc k)) (ran (frameAt 0 (part (d * 2) 2 xs)) (stretch rate l (topAt l c k) (topAt l c (suc k)) (holds st po fl)))
+  made = processAt setup (startsOf setup) (topAt setup k) (topAt setup (suc k)) (ran (frameAt 0 (part (d * 2) 2 xs)) (stretch setup (topAt setup k) (topAt setup (suc k)) (holds st po fl)))
 
   -- frame d, and what the code lends, made into y and m
   module _ (starts : List ℕ) (i e a b f : ℕ) (y : Frame) (m : Held) where
     abbrev lent-to : Ran
-    lent-to = ran (record { left = getD xs f nan; right = getD xs (f + 1) nan }) (holds (part a (b - a) st) (part (24 * i) (24 * e - 24 * i) po) (part (20 * i) (20 * e - 20 * i) fl))
+    lent-to = ran (record { left = getD xs f nan; right = getD xs (f + 1) nan }) (holds (part a (b - a) st) (part (placePositions * i) (placePositions * e - placePositions * i) po) (part (placeFloats * i) (placeFloats * e - placeFloats * i) fl))
 
-    pub advance-is : i ≡ topAt l c k → e ≡ topAt l c (suc k) → a ≡ startOf rate l i → b ≡ startOf rate l e → starts ≡ startsOf rate l → f ≡ d * 2
-        → f + 2 ≤ length xs → length (m .store) ≡ b - a → length (m .positions) ≡ 24 * e - 24 * i → length (m .floats) ≡ 20 * e - 20 * i
-        → ran y m ≡ processAt rate l starts i e lent-to
-        → state (set (set xs f (y .left)) (f + 1) (y .right)) (mid a b (m .store) st) (mid (24 * i) (24 * e) (m .positions) po) (mid (20 * i) (20 * e) (m .floats) fl) (set pr k (d + 1))
-        ≡ stepped rate l c k (state xs st po fl pr)
+    pub advance-is : i ≡ topAt setup k → e ≡ topAt setup (suc k) → a ≡ startOf setup i → b ≡ startOf setup e → starts ≡ startsOf setup → f ≡ d * 2
+        → f + 2 ≤ length xs → length (m .store) ≡ b - a → length (m .positions) ≡ placePositions * e - placePositions * i → length (m .floats) ≡ placeFloats * e - placeFloats * i
+        → ran y m ≡ processAt setup starts i e lent-to
+        → state (set (set xs f (y .left)) (f + 1) (y .right)) (mid a b (m .store) st) (mid (placePositions * i) (placePositions * e) (m .positions) po) (mid (placeFloats * i) (placeFloats * e) (m .floats) fl) (set pr k (d + 1))
+        ≡ stepped setup k (state xs st po fl pr)
     unfolding step put out
     advance-is is es p q ss fs h u v w r =
         λ t. record {
           samples = (one ∙ ap (λ (r : Ran). splice (d * 2) (r .frame .left ∷ (r .frame .right ∷ [])) xs) same) t;
-          held = (back rate l i e a b p q st fl po m u v w ∙ two) t;
+          held = (back setup i e a b p q st fl po m u v w ∙ two) t;
           progress = set pr k (add-one d t);
         }
       where
         same : ran y m ≡ made
-        same = r ∙ rw (lent rate l i e a b p q st fl po, ← frame-out f xs, ss, fs, is, es)
+        same = r ∙ rw (lent setup i e a b p q st fl po, ← frame-out f xs, ss, fs, is, es)
 
         one : set (set xs f (y .left)) (f + 1) (y .right) ≡ splice (d * 2) (y .left ∷ (y .right ∷ [])) xs
         one = rw (add-one f, pair-in f (y .left) (y .right) xs h, fs)
 
-        two : replaced rate l i m (holds st po fl) ≡ replaced rate l (topAt l c k) (made .held) (holds st po fl)
-        two = rw is (ap (λ (r : Ran). replaced rate l (topAt l c k) (r .held) (holds st po fl)) same)
+        two : replaced setup i m (holds st po fl) ≡ replaced setup (topAt setup k) (made .held) (holds st po fl)
+        two = rw is (ap (λ (r : Ran). replaced setup (topAt setup k) (r .held) (holds st po fl)) same)

@@ -16,8 +16,9 @@ use Rattle.order.specs.Chain.{State, at, out}
 use Rattle.order.specs.Claims.{Stepped}
 use Rattle.order.proofs.OneStep.{one-step, lag, made}
 use Rattle.order.proofs.Stretches.{length-part}
-use Rattle.stage.specs.declared.kind.Stage.{Stage}
-use Rattle.stage.specs.Kind.{stageAt}
+use Rattle.stage.specs.declared.setup.Setup.{Setup}
+use Rattle.memories.specs.Sizes.{placePositions}
+use Rattle.stage.specs.Setup.{stageAt, usedOf}
 use Rattle.stage.specs.Layout.{startsOf}
 use Rattle.stage.specs.Lines.{linesOf}
 use Rattle.apart.proofs.OnLines.{Good, place-stays, good-part, good-splice}
@@ -35,54 +36,54 @@ past-frame n i xs ys e h =
     let k : n + (i - n) ≡ i = omega arith in
     sym (ap (λ (m : ℕ). getD xs m nan) k) ∙ sym (getD-drop n xs (i - n) nan) ∙ ap (λ (l : List Float). getD l (i - n) nan) e ∙ getD-drop n ys (i - n) nan ∙ ap (λ (m : ℕ). getD ys m nan) k
 
-module _ (rate : ℕ) (l : List Stage) (c : ℕ) (s : State Float Held) (k : ℕ) (v : Ready rate l c s) (o : May rate l c s k) where
+module _ (setup : Setup) (s : State Float Held) (k : ℕ) (v : Ready setup s) (o : May setup s k) where
   abbrev F : ℕ
   F = framesOf (s .samples)
 
-  w : Stepped (chainOf rate l c) (Room rate l c) F k s (stepped rate l c k s)
-  w = one-step (chainOf rate l c) (Room rate l c) (Sized rate l c) (chain-local rate l c) F s k v o
+  w : Stepped (chainOf setup) (Room setup) F k s (stepped setup k s)
+  w = one-step (chainOf setup) (Room setup) (Sized setup) (chain-local setup) F s k v o
 
-  tops-some : 0 < topsOf l c
+  tops-some : 0 < topsOf setup
   tops-some = omega (arith, o .inside)
 
   -- the frames that top stage 0 has not run begin after the frame that was run
-  unrun-after : suc (at s k) * 2 ≤ unrunFrom (topsOf l c) (stepped rate l c k s .progress)
-  unrun-after = rw (unrun-some (topsOf l c) (stepped rate l c k s .progress) tops-some) (go (ℕ-discrete 0 k))
+  unrun-after : suc (at s k) * 2 ≤ unrunFrom (topsOf setup) (stepped setup k s .progress)
+  unrun-after = rw (unrun-some (topsOf setup) (stepped setup k s .progress) tops-some) (go (ℕ-discrete 0 k))
     where
-      go : Dec (0 ≡ k) → suc (at s k) * 2 ≤ 2 * at (stepped rate l c k s) 0
-      go (yes e) = omega (arith, w .moved, ap (λ (j : ℕ). at (stepped rate l c k s) j) e)
-      go (no d) = omega (arith, w .others 0 d, lag (chainOf rate l c) (Room rate l c) (Sized rate l c) (chain-local rate l c) F s 0 k (omega arith) v o)
+      go : Dec (0 ≡ k) → suc (at s k) * 2 ≤ 2 * at (stepped setup k s) 0
+      go (yes e) = omega (arith, w .moved, ap (λ (j : ℕ). at (stepped setup k s) j) e)
+      go (no d) = omega (arith, w .others 0 d, lag (chainOf setup) (Room setup) (Sized setup) (chain-local setup) F s 0 k (omega arith) v o)
 
   -- and not before those that it had not run
-  unrun-more : unrunFrom (topsOf l c) (s .progress) ≤ unrunFrom (topsOf l c) (stepped rate l c k s .progress)
-  unrun-more = rw (unrun-some (topsOf l c) (s .progress) tops-some, unrun-some (topsOf l c) (stepped rate l c k s .progress) tops-some) (go (ℕ-discrete 0 k))
+  unrun-more : unrunFrom (topsOf setup) (s .progress) ≤ unrunFrom (topsOf setup) (stepped setup k s .progress)
+  unrun-more = rw (unrun-some (topsOf setup) (s .progress) tops-some, unrun-some (topsOf setup) (stepped setup k s .progress) tops-some) (go (ℕ-discrete 0 k))
     where
-      go : Dec (0 ≡ k) → 2 * at s 0 ≤ 2 * at (stepped rate l c k s) 0
-      go (yes e) = omega (arith, w .moved, ap (λ (j : ℕ). at (stepped rate l c k s) j) e, ap (λ (j : ℕ). at s j) e)
+      go : Dec (0 ≡ k) → 2 * at s 0 ≤ 2 * at (stepped setup k s) 0
+      go (yes e) = omega (arith, w .moved, ap (λ (j : ℕ). at (stepped setup k s) j) e, ap (λ (j : ℕ). at s j) e)
       go (no d) = omega (arith, w .others 0 d)
 
-  pub still-finite : ((i : ℕ) → unrunFrom (topsOf l c) (s .progress) ≤ i → i < length (s .samples) → finiteOf (getD (s .samples) i nan) ≡ true)
-      → (i : ℕ) → unrunFrom (topsOf l c) (stepped rate l c k s .progress) ≤ i → i < length (stepped rate l c k s .samples) → finiteOf (getD (stepped rate l c k s .samples) i nan) ≡ true
+  pub still-finite : ((i : ℕ) → unrunFrom (topsOf setup) (s .progress) ≤ i → i < length (s .samples) → finiteOf (getD (s .samples) i nan) ≡ true)
+      → (i : ℕ) → unrunFrom (topsOf setup) (stepped setup k s .progress) ≤ i → i < length (stepped setup k s .samples) → finiteOf (getD (stepped setup k s .samples) i nan) ≡ true
   still-finite f i h g =
-      ap finiteOf (past-frame (suc (at s k) * 2) i (stepped rate l c k s .samples) (s .samples) (w .after) (omega (arith, unrun-after)))
+      ap finiteOf (past-frame (suc (at s k) * 2) i (stepped setup k s .samples) (s .samples) (w .after) (omega (arith, unrun-after)))
       ∙ f i (omega (arith, unrun-more)) (omega (arith, w .samples))
 
   -- ---- positions
 
-  pub still-found : ((i j : ℕ) → i < c → j < length (linesOf rate (stageAt l i)) → getD (s .held .positions) (24 * i + j) 0 < getD (linesOf rate (stageAt l i)) j 0)
-      → (i j : ℕ) → i < c → j < length (linesOf rate (stageAt l i)) → getD (stepped rate l c k s .held .positions) (24 * i + j) 0 < getD (linesOf rate (stageAt l i)) j 0
+  pub still-found : ((i j : ℕ) → i < usedOf setup → j < length (linesOf (setup .rate) (stageAt setup i)) → getD (s .held .positions) (placePositions * i + j) 0 < getD (linesOf (setup .rate) (stageAt setup i)) j 0)
+      → (i j : ℕ) → i < usedOf setup → j < length (linesOf (setup .rate) (stageAt setup i)) → getD (stepped setup k s .held .positions) (placePositions * i + j) 0 < getD (linesOf (setup .rate) (stageAt setup i)) j 0
   unfolding out stretch replaced
   still-found f i j ic jl =
-      let t = topAt l c k in
-      let e = topAt l c (suc k) in
-      let C = chainOf rate l c in
+      let t = topAt setup k in
+      let e = topAt setup (suc k) in
+      let C = chainOf setup in
       let xs = s .held .positions in
-      let te : t ≤ e = top-next l c k in
-      let ec : e ≤ c = top-le l c (suc k) in
-      let n : 24 * e - 24 * t ≡ 24 * (e - t) = omega arith in
-      let m = made C (Room rate l c) (Sized rate l c) (chain-local rate l c) F s k v o in
-      let own : length (part (24 * t) (24 * e - 24 * t) xs) ≡ 24 * (e - t) = length-part (24 * t) (24 * e - 24 * t) xs (omega (arith, v .held .positions)) ∙ n in
-      let all : Good rate l 0 c xs = λ a b za ac bn. rw sub-zero (f a b ac bn) in
-      let mine : Good rate l t e (part (24 * t) (24 * e - 24 * t) xs) = subst (λ (q : ℕ). Good rate l t e (part (24 * t) q xs)) (sym n) (good-part rate l c t e xs ec all) in
-      let after = good-splice rate l c t e (out C F k s .held .positions) xs te ec (v .held .positions) (m .held .positions ∙ n) (place-stays rate l (startsOf rate l) t e (ran (frameAt 0 (part (at s k * 2) 2 (s .samples))) (stretch rate l t e (s .held))) (le-of-eq (sym own)) mine) all in
-      subst (λ (ps : List ℕ). getD ps (24 * i + j) 0 < getD (linesOf rate (stageAt l i)) j 0) (sym (ap (λ (h : Held). h .positions) (w .held))) (rw sub-zero at (after i j (omega arith) ic jl))
+      let te : t ≤ e = top-next setup k in
+      let ec : e ≤ usedOf setup = top-le setup (suc k) in
+      let n : placePositions * e - placePositions * t ≡ placePositions * (e - t) = omega arith in
+      let m = made C (Room setup) (Sized setup) (chain-local setup) F s k v o in
+      let own : length (part (placePositions * t) (placePositions * e - placePositions * t) xs) ≡ placePositions * (e - t) = length-part (placePositions * t) (placePositions * e - placePositions * t) xs (omega (arith, v .held .positions)) ∙ n in
+      let all : Good setup 0 (usedOf setup) xs = λ a b za ac bn. rw sub-zero (f a b ac bn) in
+      let mine : Good setup t e (part (placePositions * t) (placePositions * e - placePositions * t) xs) = subst (λ (q : ℕ). Good setup t e (part (placePositions * t) q xs)) (sym n) (good-part setup (usedOf setup) t e xs ec all) in
+      let after = good-splice setup (usedOf setup) t e (out C F k s .held .positions) xs te ec (v .held .positions) (m .held .positions ∙ n) (place-stays setup (startsOf setup) t e (ran (frameAt 0 (part (at s k * 2) 2 (s .samples))) (stretch setup t e (s .held))) (le-of-eq (sym own)) mine) all in
+      subst (λ (ps : List ℕ). getD ps (placePositions * i + j) 0 < getD (linesOf (setup .rate) (stageAt setup i)) j 0) (sym (ap (λ (h : Held). h .positions) (w .held))) (rw sub-zero at (after i j (omega arith) ic jl))

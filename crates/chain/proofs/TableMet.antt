@@ -6,10 +6,10 @@ use Rattle.chain.specs.Table.{AnswersTabled, RenderUnchanged, StartsTabl
 use Rattle.chain.proofs.Running.{left-is, left-not, rendered-not}
 
 pub answers-tabled : AnswersTabled
-answers-tabled rate l c s order = record { answer = by-the-table rate l c (length (s .held .store)) (s .samples) (s .held .positions) (s .progress) order; unchanged = left-not rate l c s order; rendered = left-is rate l c s order }
+answers-tabled setup s order = record { answer = by-the-table setup (length (s .held .store)) (s .samples) (s .held .positions) (s .progress) order; unchanged = left-not setup s order; rendered = left-is setup s order }
 
 pub render-unchanged : RenderUnchanged
 render-unchanged = rendered-not
 
 pub starts-tabled : StartsTabled
-starts-tabled rate l c store = record { answer = start-by-the-table rate l c (length store); unchanged = not-started rate l c store; cleared = started rate l c store }
+starts-tabled setup store = record { answer = start-by-the-table setup (length store); unchanged = not-started setup store; cleared = started setup store }

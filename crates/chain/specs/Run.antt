@@ -7,19 +7,29 @@ use lib.ListN.{length}
 use Rattle.line.specs.Held.{Held}
 use Rattle.order.specs.Chain.{State}
 use Rattle.order.specs.Finish.{finishing}
-use Rattle.stage.specs.declared.kind.Stage.{Stage}
+use Rattle.stage.specs.declared.setup.Setup.{Setup}
 use Rattle.answer.specs.declared.Answer.{Answer}
 use Rattle.answer.specs.Answer.{acceptedOf}
 use Rattle.tops.specs.Tops.{topsOf}
-use Rattle.chain.specs.Chain.{framesOf, ordered}
 use Rattle.refuse.specs.Refusals.{answerOf}
+use Rattle.chain.specs.Chain.{framesOf, ordered}
 
-abbrev pub answerOn : ℕ → List Stage → ℕ → State Float Held → List ℕ → Answer
-answerOn rate l c s order = answerOf rate l c (length (s .held .store)) (s .samples) (s .held .positions) (s .progress) order
+-- what a call with this order answers
+abbrev pub answerOn : Setup → State Float Held → List ℕ → Answer
+answerOn setup s order = answerOf setup (length (s .held .store)) (s .samples) (s .held .positions) (s .progress) order
 
-abbrev pub leftOf : ℕ → List Stage → ℕ → State Float Held → List ℕ → State Float Held
-leftOf rate l c s order = cond (acceptedOf (answerOn rate l c s order)) (ordered rate l c s order) s
+-- what is left of a call with this order that, where it is accepted, runs these entries
+abbrev pub leftBy : Setup → State Float Held → List ℕ → List ℕ → State Float Held
+leftBy setup s order entries = cond (acceptedOf (answerOn setup s order)) (ordered setup s entries) s
 
--- every top stage to the last frame, from wherever the block stands
-abbrev pub renderedOf : ℕ → List Stage → ℕ → State Float Held → State Float Held
-renderedOf rate l c s = cond (acceptedOf (answerOn rate l c s [])) (ordered rate l c s (finishing (topsOf l c) (framesOf (s .samples)) (s .progress))) s
+-- `run` runs the order that it is given
+abbrev pub leftOf : Setup → State Float Held → List ℕ → State Float Held
+leftOf setup s order = leftBy setup s order order
+
+-- the order that brings every top stage to the last frame, from wherever the block stands
+abbrev pub toEnd : Setup → State Float Held → List ℕ
+toEnd setup s = finishing (topsOf setup) (framesOf (s .samples)) (s .progress)
+
+-- `render` runs that one, and is refused as an empty order is
+abbrev pub renderedOf : Setup → State Float Held → State Float Held
+renderedOf setup s = leftBy setup s [] (toEnd setup s)

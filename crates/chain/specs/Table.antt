@@ -1,4 +1,6 @@
--- Demand 1 of the user, about what `run` and `start` answer and leave: "a refusal comes exactly under its condition, gives its number and place, and changes no sample, line, memory or progress". The conditions are crate `table`'s specs/Table.antt. Definitions only.
+-- Demand 1 of the user, about what `run`, `render` and `start` answer and leave: "a refusal comes exactly under its condition,
+-- gives its number and place, and changes no sample, line, memory or progress". The rows of the table, each with its number,
+-- condition and place, are crate `refuse`'s specs/Refusals.antt; `ByTheTable` is crate `rows`'s. Definitions only.
 use mathlib.Core.Path.{_≡_}
 use mathlib.Core.Bool.{true, false}
 use mathlib.Core.List.{List, []}
@@ -7,34 +9,40 @@ use lib.Ieee.{Float}
 use lib.ListN.{length}
 use Rattle.line.specs.Held.{Held}
 use Rattle.order.specs.Chain.{State}
-use Rattle.stage.specs.declared.kind.Stage.{Stage}
-use Rattle.stage.specs.Layout.{startOf}
-use Rattle.answer.specs.Answer.{acceptedOf}
-use Rattle.refuse.specs.Refusals.{chainAnswer}
-use Rattle.table.specs.Table.{chainConditions, conditions, ByTheTable}
+use Rattle.rows.specs.Rows.{ByTheTable}
+use Rattle.stage.specs.declared.setup.Setup.{Setup}
+use Rattle.stage.specs.Layout.{neededOf}
+use Rattle.answer.specs.declared.Answer.the-variants.{Accepted}
+use Rattle.answer.specs.Answer.{numberOf, placeOf, acceptedOf}
+use Rattle.refuse.specs.Refusals.{chainRows, refusalRows, chainAnswer}
 use Rattle.chain.specs.Chain.{ordered}
 use Rattle.chain.specs.Run.{answerOn, leftOf, renderedOf}
 use Rattle.fresh.specs.Start.{clearedTo, startedOf}
 
-pub record Tabled (rate : ℕ) (l : List Stage) (c : ℕ) (s : State Float Held) (order : List ℕ) : Type 0 where
-  pub answer : ByTheTable (conditions rate l c (length (s .held .store)) (s .samples) (s .held .positions) (s .progress) order) (answerOn rate l c s order)
-  pub unchanged : acceptedOf (answerOn rate l c s order) ≡ false → leftOf rate l c s order ≡ s
+pub record Tabled (setup : Setup) (s : State Float Held) (order : List ℕ) : Type 0 where
+  pub answer : ByTheTable numberOf placeOf
+      (refusalRows setup (length (s .held .store)) (s .samples) (s .held .positions) (s .progress) order) Accepted
+      (answerOn setup s order)
+  pub unchanged : acceptedOf (answerOn setup s order) ≡ false → leftOf setup s order ≡ s
   -- "what meets none of document 01's eleven refusals is rendered": the order is run, entry by entry
-  pub rendered : acceptedOf (answerOn rate l c s order) ≡ true → leftOf rate l c s order ≡ ordered rate l c s order
+  pub rendered : acceptedOf (answerOn setup s order) ≡ true → leftOf setup s order ≡ ordered setup s order
 
--- of every call of `run`; and `render`, which answers as `run` does with an empty order, changes nothing where that is refused
+-- of every call of `run`
 abbrev pub AnswersTabled : Type 0
-AnswersTabled = (rate : ℕ) (l : List Stage) (c : ℕ) (s : State Float Held) (order : List ℕ) → Tabled rate l c s order
+AnswersTabled = (setup : Setup) (s : State Float Held) (order : List ℕ) → Tabled setup s order
 
+-- and `render`, which answers as `run` does with an empty order, changes nothing where that is refused
 abbrev pub RenderUnchanged : Type 0
-RenderUnchanged = (rate : ℕ) (l : List Stage) (c : ℕ) (s : State Float Held) → acceptedOf (answerOn rate l c s []) ≡ false → renderedOf rate l c s ≡ s
+RenderUnchanged = (setup : Setup) (s : State Float Held) → acceptedOf (answerOn setup s []) ≡ false → renderedOf setup s ≡ s
 
 -- "a fresh start makes checks 1 to 5, then clears the needed floats"
-pub record StartTabled (rate : ℕ) (l : List Stage) (c : ℕ) (store : List Float) : Type 0 where
-  pub answer : ByTheTable (chainConditions rate l c (length store)) (chainAnswer rate l c (length store))
-  pub unchanged : acceptedOf (chainAnswer rate l c (length store)) ≡ false → startedOf rate l c store ≡ store
-  pub cleared : acceptedOf (chainAnswer rate l c (length store)) ≡ true → startedOf rate l c store ≡ clearedTo (startOf rate l c) store
+pub record StartTabled (setup : Setup) (store : List Float) : Type 0 where
+  pub answer : ByTheTable numberOf placeOf (chainRows setup (neededOf setup) (length store)) Accepted
+      (chainAnswer setup (neededOf setup) (length store))
+  pub unchanged : acceptedOf (chainAnswer setup (neededOf setup) (length store)) ≡ false → startedOf setup store ≡ store
+  pub cleared : acceptedOf (chainAnswer setup (neededOf setup) (length store)) ≡ true
+      → startedOf setup store ≡ clearedTo (neededOf setup) store
 
 -- of every call of `start`
 abbrev pub StartsTabled : Type 0
-StartsTabled = (rate : ℕ) (l : List Stage) (c : ℕ) (store : List Float) → StartTabled rate l c store
+StartsTabled = (setup : Setup) (store : List Float) → StartTabled setup store

@@ -5,8 +5,8 @@ use Prim.Native.Nat.{ℕ}
 use lib.Ieee.{Float, binary32}
 use lib.ListN.{length, replicate, drop}
 use Rattle.float.specs.Literal.{literal}
-use Rattle.stage.specs.declared.kind.Stage.{Stage}
-use Rattle.stage.specs.Layout.{startOf}
+use Rattle.stage.specs.declared.setup.Setup.{Setup}
+use Rattle.stage.specs.Layout.{neededOf}
 use Rattle.answer.specs.Answer.{acceptedOf}
 use Rattle.refuse.specs.Refusals.{chainAnswer}
 
@@ -14,6 +14,8 @@ use Rattle.refuse.specs.Refusals.{chainAnswer}
 unfoldable pub clearedTo : ℕ → List Float → List Float
 clearedTo n store = replicate n (literal binary32 0 1) ++ drop n store
 
-unfoldable pub startedOf : ℕ → List Stage → ℕ → List Float → List Float
+-- what a fresh start leaves of the store
+unfoldable pub startedOf : Setup → List Float → List Float
 unfolding clearedTo
-startedOf rate l c store = cond (acceptedOf (chainAnswer rate l c (length store))) (clearedTo (startOf rate l c) store) store
+startedOf setup store =
+    cond (acceptedOf (chainAnswer setup (neededOf setup) (length store))) (clearedTo (neededOf setup) store) store

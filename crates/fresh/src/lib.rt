@@ -1,3 +1,2 @@
-// A chain that has not run yet: memories at zero, and a fresh start.
-pub mod memories;
+// A chain that has not run yet: a fresh start.
 pub mod start;

@@ -3,16 +3,16 @@
 ghost use mathlib.Core.Path.{_≡_};
 ghost use Prim.Native.Nat.{_≤_};
 ghost use lib.ListN.{length};
-ghost use Rattle.fresh.specs.Memories.{zeroMemories};
+ghost use Rattle.memories.specs.Memories.{zeroMemories};
+ghost use Rattle.stage.specs.Layout.{neededOf};
 ghost use Rattle.refuse.specs.Refusals.{chainAnswer};
 ghost use Rattle.fresh.specs.Start.{clearedTo, startedOf};
-use crate::memories;
-use crate::memories::Memories;
 use answer::Answer;
 use answer::is_accepted;
-use refuse::check::check_chain;
-use stage::kind::Stage;
-use stage::layout::starts_of;
+use memories::Memories;
+use refuse::chain::check_chain;
+use stage::layout::needed;
+use stage::setup::Setup;
 
 pub struct Started {
     pub answer: Answer,
@@ -31,14 +31,14 @@ fn clear(store: &mut [f32], n: usize)
     }
 }
 
-pub fn start(rate: u32, stages: [Stage; 16], count: usize, store: &mut [f32]) -> Started
-    ensures answer { λ r. ⌜ (r .answer ≡ chainAnswer rate stages count (length (now (store .entry)))) × (r .memories ≡ zeroMemories) ⌝ }
-    ensures left { λ r. ⌜ now (store .exit) ≡ startedOf rate stages count (now (store .entry)) ⌝ }
+pub fn start(setup: Setup, store: &mut [f32]) -> Started
+    ensures answer { λ r. ⌜ (r .answer ≡ chainAnswer setup (neededOf setup) (length (now (store .entry)))) × (r .memories ≡ zeroMemories) ⌝ }
+    ensures left { λ r. ⌜ now (store .exit) ≡ startedOf setup (now (store .entry)) ⌝ }
 {
-    let answer = check_chain(rate, stages, count, store.len());
+    let floats = needed(setup);
+    let answer = check_chain(setup, floats, store.len());
     if is_accepted(answer) {
-        let starts = starts_of(rate, stages);
-        clear(store, starts[count]);
+        clear(store, floats);
         return Started {
             answer,
             memories: memories::zero(),

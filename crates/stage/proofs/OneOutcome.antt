@@ -16,6 +16,9 @@ floats-of-single κs a r r' s s' p q = p .0 ∙ sym (q .0)
 pub starts-of-single : Single layout.starts_of.Reads.Post
 starts-of-single κs a r r' s s' p q = p ∙ sym q
 
+pub needed-single : Single layout.needed.Reads.Post
+needed-single κs a r r' s s' p q = p ∙ sym q
+
 pub next-place-single : Single layout.next_place.Reads.Post
 next-place-single κs a r r' s s' p q = p .0 ∙ sym (q .0)
 

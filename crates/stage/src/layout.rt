@@ -3,11 +3,12 @@ ghost use mathlib.Core.Path.{_≡_};
 ghost use Prim.Native.Nat.{_≤_, _<_};
 ghost use lib.ListN.{getD};
 ghost use Rattle.stage.specs.Setup.{nextPlace};
-ghost use Rattle.stage.specs.Layout.{startsOf, sizeOf};
+ghost use Rattle.stage.specs.Layout.{startsOf, neededOf, sizeOf};
 use crate::kind::Stage;
 use crate::kind::holding_of;
 use crate::lines::floats_of;
 use crate::setup::Setup;
+use crate::setup::used;
 use memories::PLACES;
 
 // A list of places has one end more than it has places: where the first begins, and where each ends.
@@ -28,6 +29,14 @@ pub fn starts_of(setup: Setup) -> [usize; ENDS]
         i += 1;
     }
     starts
+}
+
+// The floats that all stages need.
+pub fn needed(setup: Setup) -> usize
+    ensures { λ r. ⌜ r ≡ neededOf setup ⌝ }
+{
+    let starts = starts_of(setup);
+    starts[used(setup.count)]
 }
 
 // The place after the stage at i and the stages that it owns, but no further than `end`.

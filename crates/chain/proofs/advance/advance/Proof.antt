@@ -9,8 +9,8 @@ use Rattle.chain.proofs.OneStep.{Located, located, advance-is}
 use Rattle.chain.proofs.advance.advance.Statement.{statement}
 use Rattle.chain.proofs.advance.advance.Tie as tie
 
-here : (c : tie.Start) → Located (c .args .rate) (c .args .stages) (c .args .count) (c .args .k) (now (c .args .starts)) (now (c .args .places)) (state (now (c .args .samples)) (now (c .args .store)) (now (c .args .positions)) (now (c .args .floats)) (now (c .args .progress)))
-here c = located _ _ _ _ _ _ _ (c .pre .0 .0) (c .pre .0 .1) (c .pre .0 .2) (c .pre .1 .0) (c .pre .1 .1)
+here : (c : tie.Start) → Located (c .args .setup) (c .args .k) (now (c .args .starts)) (now (c .args .places)) (state (now (c .args .samples)) (now (c .args .store)) (now (c .args .positions)) (now (c .args .floats)) (now (c .args .progress)))
+here c = located _ _ _ _ _ (c .pre .0 .0) (c .pre .0 .1) (c .pre .1 .0) (c .pre .1 .1)
 
 mul-i : tie.Need-mul-i
 mul-i c = let s = c .before .before .before .before in omega (arith, here s, s .good)
@@ -154,7 +154,7 @@ returns : tie.Need-returns
 returns c =
     let s = c .before .before .before .before .before .before .before .before .before .before .before .before .before .before .before .before .before .before .before .before .before in
     let h = here s in
-    advance-is _ _ _ _ (now (s .args .samples)) _ _ _ (now (s .args .progress)) _ _ _ _ _ _ _ _ (h .i-is) (h .e-is) (h .a-is) (h .b-is) (h .starts-is) (omega arith) (h .in-samples)
+    advance-is _ _ (now (s .args .samples)) _ _ _ (now (s .args .progress)) _ _ _ _ _ _ _ _ (h .i-is) (h .e-is) (h .a-is) (h .b-is) (h .starts-is) (omega arith) (h .in-samples)
     (c .before .before .before .before .before .store .given .0 ∙ c .before .before .before .before .before .before .before .before .before .process-arg .given .2) (c .before .before .before .positions .given .0 ∙ c .before .before .before .before .before .before .before .before .process-arg2 .given .2) (c .before .floats .given .0 ∙ c .before .before .before .before .before .before .before .process-arg3 .given .2) (c .before .before .before .before .before .before .process .ensures)
 
 pub advance-spec : {M : Type 1} → statement M

@@ -10,12 +10,12 @@ use Rattle.chain.proofs.advance.advance_all.Statement.{statement}
 use Rattle.chain.proofs.advance.advance_all.Tie as tie
 
 abbrev Inv-loop : tie.InvT-loop
-Inv-loop order rate stages count starts places samples₀ store₀ positions₀ floats₀ progress₀ at₀ samples store positions floats progress at =
-    (at ≤ length order) × Left rate stages count (state samples₀ store₀ positions₀ floats₀ progress₀) order (state samples store positions floats progress) (drop at order)
+Inv-loop order setup starts places samples₀ store₀ positions₀ floats₀ progress₀ at₀ samples store positions floats progress at =
+    (at ≤ length order) × Left setup (state samples₀ store₀ positions₀ floats₀ progress₀) order (state samples store positions floats progress) (drop at order)
     × (length store ≡ length store₀) × (length positions ≡ length positions₀) × (length floats ≡ length floats₀)
 
 abbrev μ-loop : tie.MeasureT-loop
-μ-loop order rate stages count starts places samples₀ store₀ positions₀ floats₀ progress₀ at₀ samples store positions floats progress at =
+μ-loop order setup starts places samples₀ store₀ positions₀ floats₀ progress₀ at₀ samples store positions floats progress at =
     length order - at
 
 loop-holds : tie.Need-loop-holds Inv-loop μ-loop

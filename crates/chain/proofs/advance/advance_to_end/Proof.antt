@@ -11,12 +11,12 @@ use Rattle.chain.proofs.advance.advance_to_end.Statement.{statement}
 use Rattle.chain.proofs.advance.advance_to_end.Tie as tie
 
 abbrev Inv-loop : tie.InvT-loop
-Inv-loop k rate stages count starts places samples₀ store₀ positions₀ floats₀ progress₀ frames samples store positions floats progress =
-    Left rate stages count (state samples₀ store₀ positions₀ floats₀ progress₀) (replicate (framesOf samples₀ - getD progress₀ k 0) k) (state samples store positions floats progress) (replicate (framesOf samples₀ - getD progress k 0) k)
+Inv-loop k setup starts places samples₀ store₀ positions₀ floats₀ progress₀ frames samples store positions floats progress =
+    Left setup (state samples₀ store₀ positions₀ floats₀ progress₀) (replicate (framesOf samples₀ - getD progress₀ k 0) k) (state samples store positions floats progress) (replicate (framesOf samples₀ - getD progress k 0) k)
     × (length store ≡ length store₀) × (length positions ≡ length positions₀) × (length floats ≡ length floats₀)
 
 abbrev μ-loop : tie.MeasureT-loop
-μ-loop k rate stages count starts places samples₀ store₀ positions₀ floats₀ progress₀ frames samples store positions floats progress =
+μ-loop k setup starts places samples₀ store₀ positions₀ floats₀ progress₀ frames samples store positions floats progress =
     framesOf samples₀ - getD progress k 0
 
 loop-holds : tie.Need-loop-holds Inv-loop μ-loop

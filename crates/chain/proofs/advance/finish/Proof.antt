@@ -10,12 +10,12 @@ use Rattle.chain.proofs.advance.finish.Statement.{statement}
 use Rattle.chain.proofs.advance.finish.Tie as tie
 
 abbrev Inv-loop : tie.InvT-loop
-Inv-loop tops rate stages count starts places samples₀ store₀ positions₀ floats₀ progress₀ k₀ samples store positions floats progress k =
-    Finished rate stages count (state samples₀ store₀ positions₀ floats₀ progress₀) k (state samples store positions floats progress)
+Inv-loop tops setup starts places samples₀ store₀ positions₀ floats₀ progress₀ k₀ samples store positions floats progress k =
+    Finished setup (state samples₀ store₀ positions₀ floats₀ progress₀) k (state samples store positions floats progress)
     × (length store ≡ length store₀) × (length positions ≡ length positions₀) × (length floats ≡ length floats₀)
 
 abbrev μ-loop : tie.MeasureT-loop
-μ-loop tops rate stages count starts places samples₀ store₀ positions₀ floats₀ progress₀ k₀ samples store positions floats progress k =
+μ-loop tops setup starts places samples₀ store₀ positions₀ floats₀ progress₀ k₀ samples store positions floats progress k =
     tops - k
 
 loop-holds : tie.Need-loop-holds Inv-loop μ-loop

@@ -37,7 +37,7 @@ tops-of-requires : tie.Need-tops-of-requires
 tops-of-requires c κs = search needs
 
 -- the answer's test is the definition's
-passed : (d : tie.Then1) → let z = d .before .before .before .before .before .before .before .before in Taken (z .args .rate) (z .args .stages) (z .args .count) (block z) []
+passed : (d : tie.Then1) → let z = d .before .before .before .before .before .before .before .before in Taken (z .args .setup) (block z) []
 unfolding block
 passed d = ap acceptedOf (sym (d .before .before .refusal .ensures)) ∙ sym (d .before .is-accepted .ensures) ∙ d .if1 .taken
 
@@ -54,7 +54,7 @@ finish-requires c κs =
     let d = u .before .before .before in
     let z = d .before .before .before .before .before .before .before .before in
     let a = z .args in
-    let w = can-run (a .rate) (a .stages) (a .count) (block z) [] (arrays z) (passed d) in
+    let w = can-run (a .setup) (block z) [] (arrays z) (passed d) in
     ((w .few, u .before .starts-of .ensures, places-found (a .stages) (w .few) (u .tops-of .ensures)), (tops-found (a .stages) (w .few) (u .tops-of .ensures), w .can))
 
 same-length : tie.Need-same-length
@@ -69,7 +69,7 @@ returns c =
     let d = c .before .before .before .before .before .before .before .before .before .before .before .before .before .before .before .before .before .before in
     let z = d .before .before .before .before .before .before .before .before in
     let a = z .args in
-    (d .before .before .refusal .ensures, c .before .before .before .before .before .before .finish .ensures ∙ sym (rendered-is (a .rate) (a .stages) (a .count) (block z) (passed d)))
+    (d .before .before .refusal .ensures, c .before .before .before .before .before .before .finish .ensures ∙ sym (rendered-is (a .setup) (block z) (passed d)))
 
 same-length-3 : tie.Need-same-length-3
 same-length-3 c = search needs
@@ -79,7 +79,7 @@ unfolding block
 returns-2 c =
     let z = c .before .before .before .before .before .before .before .before in
     let a = z .args in
-    (c .before .before .refusal .ensures, sym (rendered-not (a .rate) (a .stages) (a .count) (block z) (ap acceptedOf (sym (c .before .before .refusal .ensures)) ∙ sym (c .before .is-accepted .ensures) ∙ c .if1 .left)))
+    (c .before .before .refusal .ensures, sym (rendered-not (a .setup) (block z) (ap acceptedOf (sym (c .before .before .refusal .ensures)) ∙ sym (c .before .is-accepted .ensures) ∙ c .if1 .left)))
 
 pub render-spec : {M : Type 1} → statement M
 render-spec =

@@ -33,7 +33,7 @@ tops-of-requires : tie.Need-tops-of-requires
 tops-of-requires c κs = search needs
 
 -- the answer's test is the definition's
-passed : (d : tie.Then1) → let z = d .before .before .before .before .before .before .before .before in Taken (z .args .rate) (z .args .stages) (z .args .count) (block z) (now (z .args .order))
+passed : (d : tie.Then1) → let z = d .before .before .before .before .before .before .before .before in Taken (z .args .setup) (block z) (now (z .args .order))
 unfolding block
 passed d = ap acceptedOf (sym (d .before .before .refusal .ensures)) ∙ sym (d .before .is-accepted .ensures) ∙ d .if1 .taken
 
@@ -50,7 +50,7 @@ advance-all-requires c κs =
     let d = u .before .before .before in
     let z = d .before .before .before .before .before .before .before .before in
     let a = z .args in
-    let w = can-run (a .rate) (a .stages) (a .count) (block z) (now (a .order)) (arrays z) (passed d) in
+    let w = can-run (a .setup) (block z) (now (a .order)) (arrays z) (passed d) in
     ((w .few, u .before .starts-of .ensures, places-found (a .stages) (w .few) (u .tops-of .ensures)), (w .can, w .runs))
 
 same-length : tie.Need-same-length
@@ -65,7 +65,7 @@ returns c =
     let d = c .before .before .before .before .before .before .before .before .before .before .before .before .before .before .before .before .before .before in
     let z = d .before .before .before .before .before .before .before .before in
     let a = z .args in
-    (d .before .before .refusal .ensures, c .before .before .before .before .before .before .advance-all .ensures ∙ sym (left-is (a .rate) (a .stages) (a .count) (block z) (now (a .order)) (passed d)))
+    (d .before .before .refusal .ensures, c .before .before .before .before .before .before .advance-all .ensures ∙ sym (left-is (a .setup) (block z) (now (a .order)) (passed d)))
 
 same-length-3 : tie.Need-same-length-3
 same-length-3 c = search needs
@@ -75,7 +75,7 @@ unfolding block
 returns-2 c =
     let z = c .before .before .before .before .before .before .before .before in
     let a = z .args in
-    (c .before .before .refusal .ensures, sym (left-not (a .rate) (a .stages) (a .count) (block z) (now (a .order)) (ap acceptedOf (sym (c .before .before .refusal .ensures)) ∙ sym (c .before .is-accepted .ensures) ∙ c .if1 .left)))
+    (c .before .before .refusal .ensures, sym (left-not (a .setup) (block z) (now (a .order)) (ap acceptedOf (sym (c .before .before .refusal .ensures)) ∙ sym (c .before .is-accepted .ensures) ∙ c .if1 .left)))
 
 pub run-spec : {M : Type 1} → statement M
 run-spec =

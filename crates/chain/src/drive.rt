@@ -1,0 +1,62 @@
+// What `run` and `render` share: the checks, and, where none refuses, the steps.
+ghost use mathlib.Core.Path.{_≡_};
+ghost use mathlib.Core.Bool.{cond};
+ghost use Rattle.chain.specs.Chain.{state};
+ghost use Rattle.chain.specs.Run.{answerOn, leftBy, toEnd};
+use crate::advance::proceed;
+use crate::run::Outcome;
+use answer::is_accepted;
+use memories::Memories;
+use memories::PLACES;
+use refuse::call::check;
+use stage::setup::Setup;
+
+// The order is checked, and run unless every stage is to go to the last frame.
+pub(crate) fn drive(
+    setup: Setup,
+    samples: &mut [f32],
+    memories: Memories,
+    store: &mut [f32],
+    progress: [usize; PLACES],
+    order: &[usize],
+    to_end: bool,
+) -> Outcome
+    ensures answer { λ r. ⌜ r .answer ≡ answerOn setup (state (now (samples .entry)) (now (store .entry)) (memories .positions) (memories .floats) progress) (now (order .entry)) ⌝ }
+    ensures left { λ r. ⌜ state (now (samples .exit)) (now (store .exit)) (r .memories .positions) (r .memories .floats) (r .progress)
+        ≡ leftBy setup (state (now (samples .entry)) (now (store .entry)) (memories .positions) (memories .floats) progress) (now (order .entry))
+        (cond «to_end» (toEnd setup (state (now (samples .entry)) (now (store .entry)) (memories .positions) (memories .floats) progress)) (now (order .entry))) ⌝ }
+{
+    let mut positions = memories.positions;
+    let mut floats = memories.floats;
+    let mut done = progress;
+    let checked = check(setup, store.len(), samples, &positions, &done, order);
+    let answer = checked.answer;
+    if is_accepted(answer) {
+        let starts = checked.starts;
+        let tops = checked.tops;
+        let places = tops.places;
+        proceed(
+            to_end,
+            order,
+            tops.n,
+            setup,
+            &starts,
+            &places,
+            samples,
+            store,
+            &mut positions,
+            &mut floats,
+            &mut done,
+        );
+        return Outcome {
+            answer,
+            memories: Memories { positions, floats },
+            progress: done,
+        };
+    }
+    Outcome {
+        answer,
+        memories,
+        progress,
+    }
+}
