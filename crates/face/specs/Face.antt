@@ -10,10 +10,12 @@ use Rattle.order.specs.Chain.{State}
 use Rattle.answer.specs.declared.Answer as answers
 use Rattle.answer.specs.Answer.{numberOf, placeOf}
 use Rattle.refuse.specs.Refusals.{chainAnswer}
-use Rattle.fresh.specs.Memories.{zeroMemories}
+use Rattle.memories.specs.Sizes.{places, allPositions, allFloats}
+use Rattle.memories.specs.Memories.{zeroMemories}
+use Rattle.stage.specs.Layout.{neededOf}
 use Rattle.chain.specs.Run.{answerOn, leftOf, renderedOf}
 use Rattle.fresh.specs.Start.{startedOf}
-use Rattle.words.specs.Words.{countOf, stagesOf}
+use Rattle.words.specs.Words.{setupOf}
 use Rattle.face.specs.declared.Answer.{Answer}
 use Rattle.face.specs.Call.{answer, answerOut, faultOf, read}
 
@@ -23,29 +25,29 @@ abbrev pub blockFault : List ℕ → State Float Held → Answer
 blockFault words s = faultOf words (length (s .held .positions)) (length (s .held .floats)) (length (s .progress))
 
 unfoldable pub runAnswer : ℕ → List ℕ → State Float Held → List ℕ → Answer
-runAnswer rate words s order = read (blockFault words s) (answerOut (answerOn rate (stagesOf words) (countOf words) s order)) (blockFault words s)
+runAnswer rate words s order = read (blockFault words s) (answerOut (answerOn (setupOf rate words) s order)) (blockFault words s)
 
 unfoldable pub runLeft : ℕ → List ℕ → State Float Held → List ℕ → State Float Held
-runLeft rate words s order = read (blockFault words s) (leftOf rate (stagesOf words) (countOf words) s order) s
+runLeft rate words s order = read (blockFault words s) (leftOf (setupOf rate words) s order) s
 
 unfoldable pub renderAnswer : ℕ → List ℕ → State Float Held → Answer
-renderAnswer rate words s = read (blockFault words s) (answerOut (answerOn rate (stagesOf words) (countOf words) s [])) (blockFault words s)
+renderAnswer rate words s = read (blockFault words s) (answerOut (answerOn (setupOf rate words) s [])) (blockFault words s)
 
 unfoldable pub renderLeft : ℕ → List ℕ → State Float Held → State Float Held
-renderLeft rate words s = read (blockFault words s) (renderedOf rate (stagesOf words) (countOf words) s) s
+renderLeft rate words s = read (blockFault words s) (renderedOf (setupOf rate words) s) s
 
 -- ---- start: of the words, the store and the memories; memories are at zero, refused 1 to 5 or not
 
 abbrev pub startFault : List ℕ → Held → Answer
-startFault words h = faultOf words (length (h .positions)) (length (h .floats)) 16
+startFault words h = faultOf words (length (h .positions)) (length (h .floats)) places
 
 unfoldable pub startAnswer : ℕ → List ℕ → Held → Answer
-startAnswer rate words h = read (startFault words h) (answerOut (chainAnswer rate (stagesOf words) (countOf words) (length (h .store)))) (startFault words h)
+startAnswer rate words h = read (startFault words h) (answerOut (chainAnswer (setupOf rate words) (neededOf (setupOf rate words)) (length (h .store)))) (startFault words h)
 
 unfoldable pub startLeft : ℕ → List ℕ → Held → Held
 startLeft rate words h =
     read (startFault words h)
-    (holds (startedOf rate (stagesOf words) (countOf words) (h .store)) (zeroMemories .positions) (zeroMemories .floats))
+    (holds (startedOf (setupOf rate words) (h .store)) (zeroMemories .positions) (zeroMemories .floats))
     h
 
 -- ---- floats needed: where a store of no floats is refused only for want of room, the room it wants (proofs/Needed.antt: where the lines of all stages end)
@@ -54,4 +56,4 @@ unfoldable pub roomOut : answers.Answer → Answer
 roomOut a = cond (eqb (numberOf a) 5) (answer 0 (placeOf a)) (answerOut a)
 
 unfoldable pub neededAnswer : ℕ → List ℕ → Answer
-neededAnswer rate words = read (faultOf words 384 320 16) (roomOut (chainAnswer rate (stagesOf words) (countOf words) 0)) (faultOf words 384 320 16)
+neededAnswer rate words = read (faultOf words allPositions allFloats places) (roomOut (chainAnswer (setupOf rate words) (neededOf (setupOf rate words)) 0)) (faultOf words allPositions allFloats places)

@@ -1,16 +1,24 @@
-// The crate `chain` for C and Rust to link, with flat arguments: five words a stage, memories and
-// progress in slices. Anything may be passed in: a slice of the wrong length gets answer 101,
+// The crate `chain` for C and Rust to link, with flat arguments: twelve words a stage, memories
+// and progress in slices. Anything may be passed in: a slice of the wrong length gets answer 101,
 // words that are no stage get 102, both before document 01's checks; refused means untouched.
 ghost use mathlib.Core.Path.{_≡_};
 ghost use lib.ListN.{length};
 ghost use Rattle.line.specs.Held.{holds};
+ghost use Rattle.memories.specs.Sizes.{places, allPositions, allFloats};
 ghost use Rattle.chain.specs.Chain.{state};
+ghost use Rattle.words.specs.Words.{layoutVersion};
 ghost use Rattle.face.specs.Call.{answerOut, faultOf};
 ghost use Rattle.face.specs.Face.{runAnswer, runLeft, renderAnswer, renderLeft, startAnswer, startLeft, roomOut, neededAnswer};
 
 mod slices;
 
 use chain::run::Outcome;
+use memories::ALL_FLOATS;
+use memories::ALL_POSITIONS;
+use memories::PLACES;
+use refuse::chain::check_chain;
+use stage::layout::needed;
+use words::WORDS;
 
 // Document 01's number and place; 101 or 102 for a call that cannot be read; 0 for an accepted one.
 #[repr(C)]
@@ -45,32 +53,32 @@ fn room_out(given: answer::Answer) -> Answer
 fn fault_of(stages: &[u64], positions: usize, floats: usize, progress: usize) -> Answer
     ensures { λ r. ⌜ r ≡ faultOf (now (stages .entry)) positions floats progress ⌝ }
 {
-    if stages.len() % 5 != 0 {
+    if stages.len() % WORDS != 0 {
         return Answer {
             number: 101,
             place: 0,
         };
     }
-    if positions != 384 {
+    if positions != ALL_POSITIONS {
         return Answer {
             number: 101,
             place: 1,
         };
     }
-    if floats != 320 {
+    if floats != ALL_FLOATS {
         return Answer {
             number: 101,
             place: 2,
         };
     }
-    if progress != 16 {
+    if progress != PLACES {
         return Answer {
             number: 101,
             place: 3,
         };
     }
     let unknown = words::first_unknown(stages);
-    if unknown < stages.len() / 5 {
+    if unknown < stages.len() / WORDS {
         return Answer {
             number: 102,
             place: unknown,
@@ -90,9 +98,9 @@ fn hand_back(
     progress: &mut [usize],
 ) -> Answer
     ensures { λ r. ⌜ (r ≡ answerOut (outcome .answer))
-        × (length (now (positions .entry)) ≡ 384 → now (positions .exit) ≡ outcome .memories .positions)
-        × (length (now (floats .entry)) ≡ 320 → now (floats .exit) ≡ outcome .memories .floats)
-        × (length (now (progress .entry)) ≡ 16 → now (progress .exit) ≡ outcome .progress) ⌝ }
+        × (length (now (positions .entry)) ≡ allPositions → now (positions .exit) ≡ outcome .memories .positions)
+        × (length (now (floats .entry)) ≡ allFloats → now (floats .exit) ≡ outcome .memories .floats)
+        × (length (now (progress .entry)) ≡ places → now (progress .exit) ≡ outcome .progress) ⌝ }
 {
     let memories = outcome.memories;
     let done = outcome.progress;
@@ -123,9 +131,7 @@ pub extern "C" fn sedhavil_run(
         return fault;
     }
     let outcome = chain::run::run(
-        rate,
-        words::stages_of(stages),
-        stages.len() / 5,
+        words::setup_of(rate, stages),
         samples,
         slices::gathered(positions, floats),
         store,
@@ -155,9 +161,7 @@ pub extern "C" fn sedhavil_render(
         return fault;
     }
     let outcome = chain::render::render(
-        rate,
-        words::stages_of(stages),
-        stages.len() / 5,
+        words::setup_of(rate, stages),
         samples,
         slices::gathered(positions, floats),
         store,
@@ -179,11 +183,11 @@ pub extern "C" fn sedhavil_start(
     ensures left { λ r. ⌜ holds (now (store .exit)) (now (positions .exit)) (now (floats .exit))
         ≡ startLeft rate (now (stages .entry)) (holds (now (store .entry)) (now (positions .entry)) (now (floats .entry))) ⌝ }
 {
-    let fault = fault_of(stages, positions.len(), floats.len(), 16);
+    let fault = fault_of(stages, positions.len(), floats.len(), PLACES);
     if fault.number != 0 {
         return fault;
     }
-    let started = fresh::start::start(rate, words::stages_of(stages), stages.len() / 5, store);
+    let started = fresh::start::start(words::setup_of(rate, stages), store);
     slices::scatter(started.memories, positions, floats);
     let answer = started.answer;
     answer_out(answer)
@@ -194,9 +198,19 @@ pub extern "C" fn sedhavil_start(
 pub extern "C" fn sedhavil_floats_needed(rate: u32, stages: &[u64]) -> Answer
     ensures { λ r. ⌜ r ≡ neededAnswer rate (now (stages .entry)) ⌝ }
 {
-    let fault = fault_of(stages, 384, 320, 16);
+    let fault = fault_of(stages, ALL_POSITIONS, ALL_FLOATS, PLACES);
     if fault.number != 0 {
         return fault;
     }
-    room_out(refuse::check::check_chain(rate, words::stages_of(stages), stages.len() / 5, 0))
+    let setup = words::setup_of(rate, stages);
+    room_out(check_chain(setup, needed(setup), 0))
+}
+
+// The version of the layout of a stage's words: a host that was made for another sends words that this
+// library does not know.
+#[no_mangle]
+pub extern "C" fn sedhavil_layout_version() -> u32
+    ensures { λ r. ⌜ r ≡ layoutVersion ⌝ }
+{
+    words::layout_version()
 }
