@@ -2,9 +2,13 @@
 ghost use Prim.Native.Nat.{_+_, _≤_, _<_};
 ghost use lib.ListN.{length};
 use chain::run::run;
-use fresh::memories::Memories;
-use fresh::memories::zero;
+use memories::Memories;
+use memories::PLACES;
+use memories::zero;
 use stage::kind::Stage;
+use stage::setup::Setup;
+use stage::setup::empty;
+use stage::setup::with;
 
 // What one way of running the echo leaves.
 pub(crate) struct Ended {
@@ -13,15 +17,17 @@ pub(crate) struct Ended {
     pub memories: Memories,
 }
 
-fn stages() -> [Stage; 16] {
-    let mut list = [Stage::PanningControl { panning: 0.25 }; 16];
-    list[0] = Stage::Delay {
+fn setup() -> Setup {
+    let delay = Stage::Delay {
         frames: 100,
         feedback: -6,
         mix: 0.5,
         owned: 0,
     };
-    list
+    with(
+        with(empty(44100), delay),
+        Stage::PanningControl { panning: 0.25 },
+    )
 }
 
 // From -1/2 to 1/2 in steps of 2^-16.
@@ -55,7 +61,7 @@ fn fill(samples: &mut [f32], order: &mut [usize], by_frame: bool) {
 }
 
 fn run_on(samples: &mut [f32], memories: Memories, store: &mut [f32], order: &[usize]) -> Memories {
-    let outcome = run(44100, stages(), 2, samples, memories, store, [0; 16], order);
+    let outcome = run(setup(), samples, memories, store, [0; PLACES], order);
     outcome.memories
 }
 

@@ -6,29 +6,33 @@ use crate::say::delay;
 use crate::say::on_block;
 use crate::say::volume;
 use crate::say::with;
-use fresh::memories::Memories;
+use memories::ALL_FLOATS;
+use memories::ALL_POSITIONS;
+use memories::Memories;
+use memories::PLACES;
+use memories::POSITIONS;
+use stage::setup;
 
 // The first position of list place 1.
 fn at_position(position: usize) -> Memories {
-    let mut positions = [0; 384];
-    positions[24] = position;
+    let mut positions = [0; ALL_POSITIONS];
+    positions[POSITIONS] = position;
     Memories {
         positions,
-        floats: [0.0; 320],
+        floats: [0.0; ALL_FLOATS],
     }
 }
 
 // A delay of 2 frames at list place 1.
 fn on_position(name: &[u8], position: usize) {
+    let first = setup::with(setup::empty(44100), volume(0));
     case(
         name,
-        44100,
-        with(all(volume(0)), 1, delay(2, 0)),
-        2,
+        setup::with(first, delay(2, 0)),
         &mut [0.0; 0],
         at_position(position),
         &mut [0.0; 4],
-        [0; 16],
+        [0; PLACES],
         &[0; 0],
     );
 }
@@ -40,7 +44,7 @@ pub(crate) fn positions() {
 
 // So many volume controls at 0 dB, on a new block.
 fn on_volumes(name: &[u8], count: usize, samples: &mut [f32], order: &[usize]) {
-    on_block(name, all(volume(0)), count, samples, [0; 16], order);
+    on_block(name, all(volume(0)), count, samples, [0; PLACES], order);
 }
 
 pub(crate) fn lengths() {
@@ -50,7 +54,7 @@ pub(crate) fn lengths() {
 }
 
 // Two frames.
-fn on_progress(name: &[u8], count: usize, progress: [usize; 16]) {
+fn on_progress(name: &[u8], count: usize, progress: [usize; PLACES]) {
     let mut samples = [0.0; 4];
     let order = [0; 0];
     on_block(name, all(volume(0)), count, &mut samples, progress, &order);
@@ -66,7 +70,7 @@ pub(crate) fn progress() {
 }
 
 // Two frames, with these right samples.
-fn on_samples(name: &[u8], count: usize, progress: [usize; 16], right_0: f32, right_1: f32) {
+fn on_samples(name: &[u8], count: usize, progress: [usize; PLACES], right_0: f32, right_1: f32) {
     let mut samples = [0.0, right_0, 0.0, right_1];
     let order = [0; 0];
     on_block(name, all(volume(0)), count, &mut samples, progress, &order);
@@ -81,7 +85,7 @@ pub(crate) fn samples() {
 }
 
 // Two frames; three stages, of which the delay at place 0 owns the next, so there are two top stages.
-fn on_owning(name: &[u8], progress: [usize; 16], order: &[usize]) {
+fn on_owning(name: &[u8], progress: [usize; PLACES], order: &[usize]) {
     let mut samples = [0.0; 4];
     on_block(
         name,

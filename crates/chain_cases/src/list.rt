@@ -7,8 +7,10 @@ use crate::say::volume;
 use crate::say::with;
 use effect::distortion::DistortionKind;
 use filters::eq_filter::EqFilterKind;
-use fresh::memories::zero;
+use memories::PLACES;
+use memories::zero;
 use stage::kind::Stage;
+use stage::setup;
 
 fn eq_filter(gain: i32) -> Stage {
     Stage::EqFilter {
@@ -119,13 +121,11 @@ fn on_store(name: &[u8], store: &mut [f32]) {
     let order = [0; 0];
     case(
         name,
-        44100,
-        all(reverb()),
-        1,
+        setup::with(setup::empty(44100), reverb()),
         &mut samples,
         zero(),
         store,
-        [0; 16],
+        [0; PLACES],
         &order,
     );
 }

@@ -3,10 +3,13 @@ use answer::Answer;
 use answer::number;
 use answer::place;
 use chain::run::run;
-use fresh::memories::Memories;
-use fresh::memories::zero;
 use libc::STDOUT_FILENO;
+use memories::Memories;
+use memories::PLACES;
+use memories::zero;
 use stage::kind::Stage;
+use stage::setup::Setup;
+use stage::setup::Slot;
 
 pub(crate) fn volume(volume: i32) -> Stage {
     Stage::VolumeControl { volume }
@@ -21,20 +24,21 @@ pub(crate) fn delay(frames: u32, owned: usize) -> Stage {
     }
 }
 
-pub(crate) fn all(stage: Stage) -> [Stage; 16] {
-    [stage; 16]
+pub(crate) fn all(stage: Stage) -> [Slot; PLACES] {
+    let slot = Slot { stage };
+    [slot; PLACES]
 }
 
-pub(crate) fn with(stages: [Stage; 16], i: usize, stage: Stage) -> [Stage; 16] {
-    let mut changed = stages;
-    if i < 16 {
-        changed[i] = stage;
+pub(crate) fn with(slots: [Slot; PLACES], i: usize, stage: Stage) -> [Slot; PLACES] {
+    let mut changed = slots;
+    if i < PLACES {
+        changed[i] = Slot { stage };
     }
     changed
 }
 
-pub(crate) fn counts(first: usize, second: usize) -> [usize; 16] {
-    let mut progress = [0; 16];
+pub(crate) fn counts(first: usize, second: usize) -> [usize; PLACES] {
+    let mut progress = [0; PLACES];
     progress[0] = first;
     progress[1] = second;
     progress
@@ -56,43 +60,30 @@ pub(crate) fn say(name: &[u8], answer: Answer) {
 
 pub(crate) fn case(
     name: &[u8],
-    rate: u32,
-    stages: [Stage; 16],
-    count: usize,
+    setup: Setup,
     samples: &mut [f32],
     memories: Memories,
     store: &mut [f32],
-    progress: [usize; 16],
+    progress: [usize; PLACES],
     order: &[usize],
 ) {
-    let outcome = run(
-        rate,
-        stages,
-        count,
-        samples,
-        memories,
-        store,
-        progress,
-        order,
-    );
+    let outcome = run(setup, samples, memories, store, progress, order);
     let answer = outcome.answer;
     say(name, answer);
 }
 
 // A chain with no samples and no order, on a store of 64 floats.
-pub(crate) fn on_list(name: &[u8], rate: u32, stages: [Stage; 16], count: usize) {
+pub(crate) fn on_list(name: &[u8], rate: u32, slots: [Slot; PLACES], count: usize) {
     let mut samples = [0.0; 0];
     let mut store = [0.0; 64];
     let order = [0; 0];
     case(
         name,
-        rate,
-        stages,
-        count,
+        Setup { rate, count, slots },
         &mut samples,
         zero(),
         &mut store,
-        [0; 16],
+        [0; PLACES],
         &order,
     );
 }
@@ -100,18 +91,20 @@ pub(crate) fn on_list(name: &[u8], rate: u32, stages: [Stage; 16], count: usize)
 // A block at 44,100, on a store of 64 floats and memories at zero.
 pub(crate) fn on_block(
     name: &[u8],
-    stages: [Stage; 16],
+    slots: [Slot; PLACES],
     count: usize,
     samples: &mut [f32],
-    progress: [usize; 16],
+    progress: [usize; PLACES],
     order: &[usize],
 ) {
     let mut store = [0.0; 64];
     case(
         name,
-        44100,
-        stages,
-        count,
+        Setup {
+            rate: 44100,
+            count,
+            slots,
+        },
         samples,
         zero(),
         &mut store,

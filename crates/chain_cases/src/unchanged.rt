@@ -1,13 +1,21 @@
 // What is left after a call, as bits: 1 is 1065353216, one half 1056964608.
-use crate::say::all;
 use crate::say::delay;
 use crate::say::say;
 use crate::say::say_number;
 use chain::render::render;
 use chain::run::run;
 use float::bits::to_bits_f32;
-use fresh::memories::zero;
 use fresh::start::start;
+use memories::PLACES;
+use memories::zero;
+use stage::setup::Setup;
+use stage::setup::empty;
+use stage::setup::with;
+
+// A delay alone.
+fn alone(rate: u32, frames: u32) -> Setup {
+    with(empty(rate), delay(frames, 0))
+}
 
 fn say_bits(name: &[u8], x: f32) {
     say_number(name, to_bits_f32(x) as u64);
@@ -18,13 +26,11 @@ fn on_delay(order: &[usize]) {
     let mut samples = [0.5; 2];
     let mut store = [1.0; 4];
     let outcome = run(
-        44100,
-        all(delay(2, 0)),
-        1,
+        alone(44100, 2),
         &mut samples,
         zero(),
         &mut store,
-        [0; 16],
+        [0; PLACES],
         order,
     );
     let answer = outcome.answer;
@@ -51,7 +57,7 @@ pub(crate) fn taken_step() {
 // A delay of 1 frame needs 2 floats.
 fn on_start(name: &[u8], rate: u32) {
     let mut store = [1.0; 3];
-    let started = start(rate, all(delay(1, 0)), 1, &mut store);
+    let started = start(alone(rate, 1), &mut store);
     let answer = started.answer;
     say(name, answer);
     say_bits(b"last_needed", store[1]);
@@ -72,13 +78,11 @@ pub(crate) fn rendered() {
     samples[0] = 1.0;
     let mut store = [0.0; 2];
     let outcome = render(
-        44100,
-        all(delay(1, 0)),
-        1,
+        alone(44100, 1),
         &mut samples,
         zero(),
         &mut store,
-        [0; 16],
+        [0; PLACES],
     );
     let answer = outcome.answer;
     say(b"render", answer);

@@ -3,7 +3,7 @@ use mathlib.Core.Path.{_≡_}
 use mathlib.Core.List.{List, [], _∷_, map}
 use Prim.Native.Nat.{ℕ, _+_, _^_}
 use lib.IntN.{pos, negsuc}
-use lib.ListN.{length, replicate}
+use lib.ListN.{replicate}
 use lib.Ieee.{Float, binary32, binary64, neg, toBits}
 use Rattle.float.specs.Literal.{literal}
 use Rattle.rounding.specs.Root.{sqrtOf}
@@ -16,8 +16,10 @@ use Rattle.effect.specs.Distortion.{distortionOf}
 use Rattle.line.specs.AllPass.{passedOf, passLineOf}
 use Rattle.line.specs.Comb.{combedOf, combLineOf}
 use Rattle.tuning.specs.Tuning.{lengthOf}
-use Rattle.stage.specs.declared.kind.Stage.{Stage}
+use Rattle.memories.specs.Sizes.{places, allPositions, allFloats}
 use Rattle.stage.specs.declared.kind.Stage.the-variants.{VolumeControl, Delay}
+use Rattle.stage.specs.declared.setup.Setup.{Setup}
+use Rattle.stage.specs.Setup.{emptySetup, withStage}
 use Rattle.answer.specs.Answer.{numberOf, placeOf}
 use Rattle.refuse.specs.Refusals.{answerOf}
 use Rattle.chain.specs.Chain.{state}
@@ -79,14 +81,17 @@ combThen x s = (combedOf (number 0) (s .0) (s .1) (s .2) .at, combedOf (number 0
 
 -- ---- P12: a block rendered from memories and a line at zero
 
-abbrev pub rendered : List Stage → ℕ → List Float → List ℕ
-rendered l floats samples = map bits (renderedOf 44100 l (length l) (state samples (replicate floats (number 0)) (replicate 384 0) (replicate 320 (number 0)) (replicate 16 0)) .samples)
+abbrev pub rendered : Setup → ℕ → List Float → List ℕ
+rendered setup floats samples =
+    let block = state samples (replicate floats (number 0)) (replicate allPositions 0) (replicate allFloats (number 0)) (replicate places 0) in
+    map bits (renderedOf setup block .samples)
 
 -- ---- P13: number and place of the answer to an order over two stages and one frame
 
 abbrev pub told : List ℕ → List ℕ
 told order =
-    let answer = answerOf 44100 (VolumeControl (pos 0) ∷ VolumeControl (pos 0) ∷ []) 2 0 (number 0 ∷ number 0 ∷ []) (replicate 384 0) (replicate 16 0) order in
+    let volumes = withStage (withStage (emptySetup 44100) (VolumeControl (pos 0))) (VolumeControl (pos 0)) in
+    let answer = answerOf volumes 0 (number 0 ∷ number 0 ∷ []) (replicate allPositions 0) (replicate places 0) order in
     numberOf answer ∷ placeOf answer ∷ []
 
 -- ---- the list
@@ -117,7 +122,7 @@ rows =
     -- P11 "comb of length 1, feedback 0.5, damping 0, inputs 1, 0, 0: 0, 1, 0.5"
     ∷ example (combed freshComb ∷ combed (combThen (number 1) freshComb) ∷ combed (combThen (number 0) (combThen (number 1) freshComb)) ∷ []) (0 ∷ one ∷ half ∷ [])
     -- P12 "delay of 1 frame, feedback 0 dB, mix 1, frames 1, 0, 0: 0, 1, 1"
-    ∷ example (rendered (Delay 1 (pos 0) (number 1) 0 ∷ []) 2 (number 1 ∷ number 1 ∷ number 0 ∷ number 0 ∷ number 0 ∷ number 0 ∷ [])) (0 ∷ 0 ∷ one ∷ one ∷ one ∷ one ∷ [])
+    ∷ example (rendered (withStage (emptySetup 44100) (Delay 1 (pos 0) (number 1) 0)) 2 (number 1 ∷ number 1 ∷ number 0 ∷ number 0 ∷ number 0 ∷ number 0 ∷ [])) (0 ∷ 0 ∷ one ∷ one ∷ one ∷ one ∷ [])
     -- P13 "two stages, one frame: order 1,0 gives refusal 11 at 0; order 0,1,0 at 2; order 0,1 is taken"
     ∷ example (told (1 ∷ 0 ∷ [])) (11 ∷ 0 ∷ [])
     ∷ example (told (0 ∷ 1 ∷ 0 ∷ [])) (11 ∷ 2 ∷ [])

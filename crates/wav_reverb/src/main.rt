@@ -1,6 +1,8 @@
 // A WAV file through one reverb. At 22,050 Hz, the highest rate that it takes, its lines need 12,719
 // floats.
 use stage::kind::Stage;
+use stage::setup::empty;
+use stage::setup::with;
 
 fn main() {
     let mut store = [0.0; 12719];
@@ -10,5 +12,5 @@ fn main() {
         stereo_width: 1.0,
         mix: 0.5,
     };
-    wav_stream::stream([reverb; 16], 1, 22050, &mut store);
+    wav_stream::stream(with(empty(0), reverb), 22050, &mut store);
 }

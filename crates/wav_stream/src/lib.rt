@@ -10,12 +10,13 @@ use answer::is_accepted;
 use answer::number;
 use chain::render::render;
 use chain::run::Outcome;
-use fresh::memories::Memories;
 use fresh::start::start;
 use libc::STDERR_FILENO;
 use libc::STDIN_FILENO;
 use libc::STDOUT_FILENO;
-use stage::kind::Stage;
+use memories::Memories;
+use memories::PLACES;
+use stage::setup::Setup;
 use wav::frames::frames_in;
 use wav::frames::frames_out;
 use wav_header::Header;
@@ -48,9 +49,7 @@ fn read_block(bytes: &mut [u8], want: usize) -> usize
 }
 
 fn render_block(
-    rate: u32,
-    stages: [Stage; 16],
-    count: usize,
+    setup: Setup,
     memories: Memories,
     samples: &mut [f32],
     frames: usize,
@@ -59,15 +58,7 @@ fn render_block(
     requires { ⌜ frames ≤ 4096 ⌝ ∗ ⌜ length (now samples) ≡ 8192 ⌝ }
 {
     let n = 2 * frames;
-    render(
-        rate,
-        stages,
-        count,
-        &mut samples[..n],
-        memories,
-        store,
-        [0; 16],
-    )
+    render(setup, &mut samples[..n], memories, store, [0; PLACES])
 }
 
 // Writes these frames, and answers whether there is a reason to go on.
@@ -93,9 +84,7 @@ fn write_block(refused: u32, samples: &[f32], bytes: &mut [u8], frames: usize, i
 // One block of frames is read, rendered and written. It is the last if it was refused (which no sample
 // from a file can bring about), could not be written or came short.
 fn block(
-    rate: u32,
-    stages: [Stage; 16],
-    count: usize,
+    setup: Setup,
     memories: Memories,
     left: usize,
     bytes: &mut [u8],
@@ -108,7 +97,7 @@ fn block(
     let want = block_bytes(left);
     let got = read_block(bytes, want);
     let frames = frames_in(&bytes[..got], samples);
-    let outcome = render_block(rate, stages, count, memories, samples, frames, store);
+    let outcome = render_block(setup, memories, samples, frames, store);
     let answer = outcome.answer;
     let kept = outcome.memories;
     let more = write_block(number(answer), samples, bytes, frames, got < want);
@@ -121,9 +110,7 @@ fn block(
 
 // Blocks until all `size` bytes of data are through.
 fn blocks(
-    rate: u32,
-    stages: [Stage; 16],
-    count: usize,
+    setup: Setup,
     memories: Memories,
     size: usize,
     bytes: &mut [u8],
@@ -135,7 +122,7 @@ fn blocks(
     let mut held = memories;
     let mut left = size;
     while left > 0 {
-        let done = block(rate, stages, count, held, left, bytes, samples, store);
+        let done = block(setup, held, left, bytes, samples, store);
         if !done.more {
             return;
         }
@@ -146,15 +133,8 @@ fn blocks(
 }
 
 // The header has been read: the lines are cleared, and the header goes out as it came.
-fn render_file(
-    head: &[u8],
-    rate: u32,
-    size: u32,
-    stages: [Stage; 16],
-    count: usize,
-    store: &mut [f32],
-) {
-    let started = start(rate, stages, count, store);
+fn render_file(head: &[u8], size: u32, setup: Setup, store: &mut [f32]) {
+    let started = start(setup, store);
     let answer = started.answer;
     if !is_accepted(answer) {
         say(number(answer));
@@ -167,9 +147,7 @@ fn render_file(
     let mut bytes = [0; 16384];
     let mut samples = [0.0; 8192];
     blocks(
-        rate,
-        stages,
-        count,
+        setup,
         memories,
         size as usize,
         &mut bytes,
@@ -178,13 +156,22 @@ fn render_file(
     );
 }
 
-// A whole file, for a program that takes rates up to `most`.
-pub fn stream(stages: [Stage; 16], count: usize, most: u32, store: &mut [f32]) {
+// The same chain at another rate.
+fn at_rate(setup: Setup, rate: u32) -> Setup {
+    Setup {
+        rate,
+        count: setup.count,
+        slots: setup.slots,
+    }
+}
+
+// A whole file through a chain at the file's rate, for a program that takes rates up to `most`.
+pub fn stream(setup: Setup, most: u32, store: &mut [f32]) {
     let mut head = [0; 44];
     let n = io::read_full(STDIN_FILENO, &mut head);
     let header = wav_header::read(&head[..n], most);
     match header {
-        Header::Read { rate, size } => render_file(&head, rate, size, stages, count, store),
+        Header::Read { rate, size } => render_file(&head, size, at_rate(setup, rate), store),
         Header::Names => say(wav_header::number(header)),
         Header::Format => say(wav_header::number(header)),
         Header::Rate => say(wav_header::number(header)),
