@@ -1,11 +1,14 @@
 -- `shape::depth` meets its contract. The loop's invariant: n counts the owners among the places passed. The measure is i - j. Assumes nothing.
 use mathlib.Core.Path.{_≡_, refl, ap, _∙_}
+use mathlib.Core.Bool.{Bool, cond}
 use mathlib.Core.Logic.{⊎-elim}
-use Prim.Native.Nat.{_-_, _≤_}
+use Prim.Native.Nat.{ℕ, _+_, _-_, _≤_}
 use native.Mathlib.Omega.{arith}
+use native.Mathlib.Numerals.{add-one}
 use borrow.Author.Needs.{needs}
-use Rattle.refuse.specs.Shape.{depthOf}
-use Rattle.refuse.proofs.Shapes.{depth-more}
+use Rattle.rows.specs.Condition.{decide}
+use Rattle.stage.specs.declared.setup.Setup.{Setup}
+use Rattle.refuse.specs.Shape.{owns, depthOf}
 use Rattle.refuse.proofs.shape.depth.Statement.{statement}
 use Rattle.refuse.proofs.shape.depth.Tie as tie
 
@@ -14,6 +17,11 @@ Inv-loop setup i n₀ j₀ n j = (j ≤ i) × (n ≤ j) × (n ≡ depthOf setup 
 
 abbrev μ-loop : tie.MeasureT-loop
 μ-loop setup i n₀ j₀ n j = i - j
+
+-- one more stage, which owns the one at i or does not
+depth-more : (setup : Setup) (i j : ℕ) {owner : Bool} → owner ≡ decide (owns setup j i) → depthOf setup i (j + 1) ≡ depthOf setup i j + cond owner 1 0
+unfolding depthOf
+depth-more setup i j e = ap (depthOf setup i) (add-one j) ∙ rw e
 
 loop-holds : tie.Need-loop-holds Inv-loop μ-loop
 unfolding depthOf

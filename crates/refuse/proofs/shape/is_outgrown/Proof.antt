@@ -4,9 +4,8 @@ use native.Mathlib.Omega.{arith}
 use Prim.Native.Nat.{_-_}
 use borrow.Author.Needs.{needs}
 use Rattle.rows.specs.Condition.{less}
-use Rattle.rows.proofs.Decided.{is-not}
+use Rattle.rows.proofs.Decided.{is-not, alike}
 use Rattle.refuse.specs.Shape.{outgrows}
-use Rattle.refuse.proofs.Shapes.{alike}
 use Rattle.refuse.proofs.shape.is_outgrown.Statement.{statement}
 use Rattle.refuse.proofs.shape.is_outgrown.Tie as tie
 

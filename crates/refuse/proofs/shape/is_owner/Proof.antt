@@ -3,8 +3,8 @@ use native.Mathlib.Omega.{arith}
 use Prim.Native.Nat.{_-_}
 use borrow.Author.Needs.{needs}
 use Rattle.rows.specs.Condition.{most}
+use Rattle.rows.proofs.Decided.{alike}
 use Rattle.refuse.specs.Shape.{owns}
-use Rattle.refuse.proofs.Shapes.{alike}
 use Rattle.refuse.proofs.shape.is_owner.Statement.{statement}
 use Rattle.refuse.proofs.shape.is_owner.Tie as tie
 
