@@ -1,11 +1,15 @@
--- Each public function's promise admits one outcome. `refusal` is lent its samples and its order by `&`, which it cannot change, so there too a caller sees the result and nothing else. Assumes nothing.
+-- Each public function's promise admits one outcome. What a function is lent by `&` it cannot change, so there too a caller sees the result and nothing else. Assumes nothing.
 use mathlib.Core.Path.{sym, _∙_}
 use Rattle.float.proofs.Outcome.{Single}
-use Rattle.refuse.proofs.block as block
-use Rattle.refuse.proofs.check as check
+use Rattle.refuse.proofs.chain as chain
+use Rattle.refuse.proofs.samples as samples
+use Rattle.refuse.proofs.state as state
 
-pub check-chain-single : Single check.check_chain.Reads.Post
+pub check-chain-single : Single chain.check_chain.Reads.Post
 check-chain-single κs a r r' s s' p q = p ∙ sym q
 
-pub refusal-single : Single block.refusal.Reads.Post
-refusal-single κs a r r' s s' p q = p ∙ sym q
+pub check-state-single : Single state.check_state.Reads.Post
+check-state-single κs a r r' s s' p q = p ∙ sym q
+
+pub check-samples-single : Single samples.check_samples.Reads.Post
+check-samples-single κs a r r' s s' p q = p ∙ sym q
