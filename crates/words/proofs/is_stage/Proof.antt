@@ -10,14 +10,14 @@ is-level-requires c κs = search needs
 
 returns : tie.Need-returns
 unfolding isStage
-returns c = rw (c .before .before .if1 .taken) (cc)
+returns c = rw (c .before .before .if1 .taken, c .is-level .ensures)
 
 is-short-requires : tie.Need-is-short-requires
 is-short-requires c κs = search needs
 
 returns-2 : tie.Need-returns-2
 unfolding isStage
-returns-2 c = rw (c .before .before .if2 .taken) (cc)
+returns-2 c = rw (c .before .before .if2 .taken, c .is-short .ensures)
 
 is-level-requires-2 : tie.Need-is-level-requires-2
 is-level-requires-2 c κs = search needs
@@ -27,21 +27,21 @@ is-short-requires-2 c κs = search needs
 
 returns-3 : tie.Need-returns-3
 unfolding isStage
-returns-3 c = rw (c .before .before .before .before .if3 .taken) (cc)
+returns-3 c = rw (c .before .before .before .before .if3 .taken, c .before .is-level2 .ensures, c .is-short2 .ensures)
 
 is-short-requires-3 : tie.Need-is-short-requires-3
 is-short-requires-3 c κs = search needs
 
 returns-4 : tie.Need-returns-4
 unfolding isStage
-returns-4 c = rw (c .before .before .before .if4 .taken) (cc)
+returns-4 c = rw (c .before .before .before .if4 .taken, c .is-short3 .ensures)
 
 is-level-requires-3 : tie.Need-is-level-requires-3
 is-level-requires-3 c κs = search needs
 
 returns-5 : tie.Need-returns-5
 unfolding isStage
-returns-5 c = rw (c .before .before .before .if5 .taken) (cc)
+returns-5 c = rw (c .before .before .before .if5 .taken, c .is-level3 .ensures)
 
 is-short-requires-4 : tie.Need-is-short-requires-4
 is-short-requires-4 c κs = search needs
@@ -57,7 +57,7 @@ is-short-requires-7 c κs = search needs
 
 returns-6 : tie.Need-returns-6
 unfolding isStage
-returns-6 c = rw (c .before .before .before .before .before .if6 .taken) (cc)
+returns-6 c = rw (c .before .before .before .before .before .if6 .taken, c .before .before .before .is-short4 .ensures, c .before .before .is-short5 .ensures, c .before .is-short6 .ensures, c .is-short7 .ensures)
 
 is-short-requires-8 : tie.Need-is-short-requires-8
 is-short-requires-8 c κs = search needs
@@ -70,7 +70,7 @@ is-short-requires-9 c κs = search needs
 
 returns-7 : tie.Need-returns-7
 unfolding isStage
-returns-7 c = rw (c .before .before .before .before .if7 .taken) (cc)
+returns-7 c = rw (c .before .before .before .before .if7 .taken, c .before .before .is-short8 .ensures, c .before .is-level4 .ensures, c .is-short9 .ensures)
 
 returns-8 : tie.Need-returns-8
 unfolding isStage
