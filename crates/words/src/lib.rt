@@ -2,7 +2,6 @@
 // may be passed in: those that are no stage are found by `first_unknown`. Words that a stage does not use
 // must be 0, so that a host with another layout is told and not misread.
 ghost use mathlib.Core.Path.{_≡_};
-ghost use mathlib.Core.Bool.{_&&_};
 ghost use Prim.Native.Nat.{_+_, _*_, _<_};
 ghost use Rattle.rows.specs.First.{firstOf};
 ghost use Rattle.words.specs.Words.{isShort, shortOf, isLevel, levelOf, singleOf, layoutVersion, isStage, lineStageOf, stageOf, wordCount, wordAt, lengthFrom, countOf, stageWords, unknownAt, setupOf};
@@ -34,12 +33,6 @@ pub fn layout_version() -> u32
     ensures { λ r. ⌜ r ≡ layoutVersion ⌝ }
 {
     1
-}
-
-fn both(a: bool, b: bool) -> bool
-    ensures { λ r. ⌜ r ≡ (a && b) ⌝ }
-{
-    if a { b } else { false }
 }
 
 fn is_short(word: u64) -> bool
@@ -88,37 +81,26 @@ fn is_stage(w: StageWords) -> bool
     ensures { λ r. ⌜ r ≡ isStage w ⌝ }
 {
     if w.kind == 0 {
-        return both(w.length <= 2, is_level(w.a));
+        return (w.length <= 2) & is_level(w.a);
     }
     if w.kind == 1 {
-        return both(w.length <= 2, is_short(w.a));
+        return (w.length <= 2) & is_short(w.a);
     }
     if w.kind == 2 {
-        return both(
-            w.length <= 4,
-            both(w.a < 2, both(is_level(w.b), is_short(w.c))),
-        );
+        return (w.length <= 4) & ((w.a < 2) & (is_level(w.b) & is_short(w.c)));
     }
     if w.kind == 3 {
-        return both(w.length <= 5, both(w.a < 4, is_short(w.d)));
+        return (w.length <= 5) & ((w.a < 4) & is_short(w.d));
     }
     if w.kind == 4 {
-        return both(w.length <= 5, both(w.a < 3, is_level(w.c)));
+        return (w.length <= 5) & ((w.a < 3) & is_level(w.c));
     }
     if w.kind == 5 {
-        return both(
-            w.length <= 5,
-            both(
-                both(is_short(w.a), is_short(w.b)),
-                both(is_short(w.c), is_short(w.d)),
-            ),
-        );
+        return (w.length <= 5)
+            & ((is_short(w.a) & is_short(w.b)) & (is_short(w.c) & is_short(w.d)));
     }
     if w.kind == 6 {
-        return both(
-            w.length <= 5,
-            both(is_short(w.a), both(is_level(w.b), is_short(w.c))),
-        );
+        return (w.length <= 5) & (is_short(w.a) & (is_level(w.b) & is_short(w.c)));
     }
     false
 }

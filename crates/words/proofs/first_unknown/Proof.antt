@@ -1,4 +1,4 @@
--- It has looked at the five words of each stage below i. The measure is count - i. Assumes nothing.
+-- It has looked at the words of each stage below i. The measure is count - i. Assumes nothing.
 use mathlib.Core.Path.{ap, sym, _∙_}
 use mathlib.Core.Bool.{not}
 use Prim.Native.Nat.{_-_}
@@ -6,8 +6,8 @@ use native.Mathlib.Nat.{mul-div-le}
 use native.Mathlib.Omega.{arith}
 use denote.Ref.{now}
 use lib.ListN.{length}
-use Rattle.stage.proofs.Firsts.{Looked, look-start, look-on, look-found, look-over}
-use Rattle.words.specs.Words.{countOf, isStage, unknownAt}
+use Rattle.rows.proofs.Firsts.{Looked, look-start, look-on, look-found, look-over}
+use Rattle.words.specs.Words.{wordCount, countOf, isStage, unknownAt}
 use borrow.Author.Needs.{needs}
 use Rattle.words.proofs.first_unknown.Statement.{statement}
 use Rattle.words.proofs.first_unknown.Tie as tie
@@ -21,15 +21,15 @@ abbrev μ-loop : tie.MeasureT-loop
 loop-holds : tie.Need-loop-holds Inv-loop μ-loop
 loop-holds c = look-start
 
-five-at-requires : tie.Need-five-at-requires Inv-loop μ-loop
-five-at-requires c κs = omega (arith, mul-div-le (length (now (c .before .before .before .args .words))) 5)
+stage-words-requires : tie.Need-stage-words-requires Inv-loop μ-loop
+stage-words-requires c κs = omega (arith, mul-div-le (length (now (c .before .before .before .args .words))) wordCount)
 
 is-stage-requires : tie.Need-is-stage-requires Inv-loop μ-loop
 is-stage-requires c κs = search needs
 
 returns : tie.Need-returns Inv-loop μ-loop
 returns c =
-    let known = c .before .is-stage .ensures ∙ ap isStage (c .before .before .five-at .ensures) in
+    let known = c .before .is-stage .ensures ∙ ap isStage (c .before .before .stage-words .ensures) in
     look-found (c .before .before .before .before .loop .inv) (omega arith) (ap not (sym known) ∙ c .if1 .taken)
 
 add-i : tie.Need-add-i Inv-loop μ-loop
@@ -40,7 +40,7 @@ loop-less c = search needs
 
 loop-again : tie.Need-loop-again Inv-loop μ-loop
 loop-again c =
-    let known = c .before .is-stage .ensures ∙ ap isStage (c .before .before .five-at .ensures) in
+    let known = c .before .is-stage .ensures ∙ ap isStage (c .before .before .stage-words .ensures) in
     look-on (c .before .before .before .before .loop .inv) (omega arith) (ap not (sym known) ∙ c .if1 .left)
 
 returns-2 : tie.Need-returns-2 Inv-loop μ-loop
@@ -53,7 +53,7 @@ first-unknown-spec =
     Inv-loop
     μ-loop
     loop-holds
-    five-at-requires
+    stage-words-requires
     is-stage-requires
     returns
     add-i

@@ -1,6 +1,6 @@
 -- The test on the kind picks the case as the definition does, and each number is read as the definition reads it. Assumes nothing.
 use borrow.Author.Needs.{needs}
-use borrow.Author.Tests.{eq-eqb, ne-eqb}
+use borrow.Author.Tests.{ne-eqb}
 use Rattle.stage.specs.declared.kind.Stage.the-variants.{Reverb, Delay}
 use Rattle.words.specs.Words.{lineStageOf}
 use Rattle.words.proofs.Levels.{level-kept}
@@ -21,7 +21,7 @@ single-requires-4 c κs = search needs
 
 returns : tie.Need-returns
 unfolding lineStageOf
-returns c = simp (eq-eqb _ _ (c .before .before .before .before .if1 .taken)) (λ i. Reverb (c .before .before .before .single .ensures i) (c .before .before .single2 .ensures i) (c .before .single3 .ensures i) (c .single4 .ensures i))
+returns c = rw (c .before .before .before .before .if1 .taken) (λ i. Reverb (c .before .before .before .single .ensures i) (c .before .before .single2 .ensures i) (c .before .single3 .ensures i) (c .single4 .ensures i))
 
 short-requires : tie.Need-short-requires
 short-requires c κs = search needs

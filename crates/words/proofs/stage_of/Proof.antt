@@ -1,6 +1,6 @@
 -- The tests on the kind pick the case as the definition does, and each number is read as the definition reads it. Assumes nothing.
 use mathlib.Core.Path.{ap}
-use borrow.Author.Tests.{eq-eqb, ne-eqb}
+use borrow.Author.Tests.{ne-eqb}
 use Rattle.stage.specs.declared.kind.Stage.the-variants.{VolumeControl, PanningControl, Distortion, Filter, EqFilter}
 use Rattle.words.specs.Words.{stageOf}
 use Rattle.words.proofs.Levels.{level-kept}
@@ -13,14 +13,14 @@ level-requires c κs = search needs
 
 returns : tie.Need-returns
 unfolding stageOf
-returns c = simp (eq-eqb _ _ (c .before .if1 .taken)) (ap VolumeControl (level-kept _ _ (c .level .ensures)))
+returns c = rw (c .before .if1 .taken) (ap VolumeControl (level-kept _ _ (c .level .ensures)))
 
 single-requires : tie.Need-single-requires
 single-requires c κs = search needs
 
 returns-2 : tie.Need-returns-2
 unfolding stageOf
-returns-2 c = simp (ne-eqb _ _ (c .before .before .before .if1 .left), eq-eqb _ _ (c .before .if2 .taken)) (ap PanningControl (c .single .ensures))
+returns-2 c = rw (c .before .if2 .taken) (ap PanningControl (c .single .ensures))
 
 clip-at-requires : tie.Need-clip-at-requires
 clip-at-requires c κs = search needs
@@ -33,7 +33,7 @@ single-requires-2 c κs = search needs
 
 returns-3 : tie.Need-returns-3
 unfolding stageOf
-returns-3 c = simp (ne-eqb _ _ (c .before .before .before .before .before .before .before .if1 .left), ne-eqb _ _ (c .before .before .before .before .before .if2 .left), eq-eqb _ _ (c .before .before .before .if3 .taken)) (λ i. Distortion (c .before .before .clip-at .ensures i) (level-kept _ _ (c .before .level2 .ensures) i) (c .single2 .ensures i))
+returns-3 c = rw (c .before .before .before .if3 .taken) (λ i. Distortion (c .before .before .clip-at .ensures i) (level-kept _ _ (c .before .level2 .ensures) i) (c .single2 .ensures i))
 
 mode-at-requires : tie.Need-mode-at-requires
 mode-at-requires c κs = search needs
@@ -49,7 +49,7 @@ single-requires-3 c κs = search needs
 
 returns-4 : tie.Need-returns-4
 unfolding stageOf
-returns-4 c = simp (ne-eqb _ _ (c .before .before .before .before .before .before .before .before .before .before .if1 .left), ne-eqb _ _ (c .before .before .before .before .before .before .before .before .if2 .left), ne-eqb _ _ (c .before .before .before .before .before .before .if3 .left), eq-eqb _ _ (c .before .before .before .before .if4 .taken)) (λ i. Filter (c .before .before .before .mode-at .ensures i) (c .before .before .from-bits-f64 .ensures i) (c .before .from-bits-f642 .ensures i) (c .single3 .ensures i))
+returns-4 c = rw (c .before .before .before .before .if4 .taken) (λ i. Filter (c .before .before .before .mode-at .ensures i) (c .before .before .from-bits-f64 .ensures i) (c .before .from-bits-f642 .ensures i) (c .single3 .ensures i))
 
 band-at-requires : tie.Need-band-at-requires
 band-at-requires c κs = search needs
@@ -65,7 +65,7 @@ from-bits-f64-requires-4 c κs = search needs
 
 returns-5 : tie.Need-returns-5
 unfolding stageOf
-returns-5 c = simp (ne-eqb _ _ (c .before .before .before .before .before .before .before .before .before .before .before .before .if1 .left), ne-eqb _ _ (c .before .before .before .before .before .before .before .before .before .before .if2 .left), ne-eqb _ _ (c .before .before .before .before .before .before .before .before .if3 .left), ne-eqb _ _ (c .before .before .before .before .before .before .if4 .left), eq-eqb _ _ (c .before .before .before .before .if5 .taken)) (λ i. EqFilter (c .before .before .before .band-at .ensures i) (c .before .before .from-bits-f643 .ensures i) (level-kept _ _ (c .before .level3 .ensures) i) (c .from-bits-f644 .ensures i))
+returns-5 c = rw (c .before .before .before .before .if5 .taken) (λ i. EqFilter (c .before .before .before .band-at .ensures i) (c .before .before .from-bits-f643 .ensures i) (level-kept _ _ (c .before .level3 .ensures) i) (c .from-bits-f644 .ensures i))
 
 line-stage-of-requires : tie.Need-line-stage-of-requires
 line-stage-of-requires c κs = search needs

@@ -1,7 +1,7 @@
 -- Each word is the one at its place. Assumes nothing.
 use borrow.Author.Needs.{needs}
-use Rattle.words.proofs.five_at.Statement.{statement}
-use Rattle.words.proofs.five_at.Tie as tie
+use Rattle.words.proofs.stage_words.Statement.{statement}
+use Rattle.words.proofs.stage_words.Tie as tie
 
 mul-at : tie.Need-mul-at
 mul-at c = search needs
@@ -33,11 +33,14 @@ add-word-at-4 c = search needs
 word-at-requires-5 : tie.Need-word-at-requires-5
 word-at-requires-5 c κs = search needs
 
-returns : tie.Need-returns
-returns c = λ i. record { kind = c .before .before .before .before .word-at .ensures i; a = c .before .before .before .word-at2 .ensures i; b = c .before .before .word-at3 .ensures i; c = c .before .word-at4 .ensures i; d = c .word-at5 .ensures i }
+length-from-requires : tie.Need-length-from-requires
+length-from-requires c κs = search needs
 
-pub five-at-spec : {M : Type 1} → statement M
-five-at-spec =
+returns : tie.Need-returns
+returns c = λ i. record { kind = c .before .before .before .before .before .word-at .ensures i; a = c .before .before .before .before .word-at2 .ensures i; b = c .before .before .before .word-at3 .ensures i; c = c .before .before .word-at4 .ensures i; d = c .before .word-at5 .ensures i; length = c .length-from .ensures i }
+
+pub stage-words-spec : {M : Type 1} → statement M
+stage-words-spec =
     tie.close
     (tie.spec
     mul-at
@@ -50,4 +53,5 @@ five-at-spec =
     word-at-requires-4
     add-word-at-4
     word-at-requires-5
+    length-from-requires
     returns)
