@@ -16,9 +16,10 @@ use Rattle.filters.specs.Filter.{filterOf}
 use Rattle.filters.specs.EqFilter.{eqOf}
 use Rattle.line.specs.Held.{Ran, ran}
 use Rattle.reverb.specs.Reverb.{reverbOf}
-use Rattle.stage.specs.declared.kind.Stage.{Stage}
+use Rattle.memories.specs.Sizes.{places}
 use Rattle.stage.specs.declared.kind.Stage.the-variants.{VolumeControl, PanningControl, Distortion, Filter, EqFilter, Reverb, Delay}
-use Rattle.stage.specs.Kind.{stageAt, nextPlace}
+use Rattle.stage.specs.declared.setup.Setup.{Setup}
+use Rattle.stage.specs.Setup.{stageAt, nextPlace}
 use Rattle.stage.specs.Layout.{sizeOf}
 use Rattle.step.specs.Step.{remembering, delayStage, stageStep, inTurn, spanOf, stepOf, processAt}
 
@@ -51,30 +52,30 @@ module _ (rate : ℕ) (inner : Ran → Ran) (r : Ran) where
   unfolding stageStep
   delay-is frames feedback mix owned = refl
 
-module _ (rate : ℕ) (l : List Stage) (starts : List ℕ) (i e : ℕ) (r : Ran) where
-  pub step-is : (n left : ℕ) → stepOf n left rate l starts i e r ≡ stageStep rate (spanOf n left rate l starts (i + 1) e) (stageAt l i) r
+module _ (setup : Setup) (starts : List ℕ) (i e : ℕ) (r : Ran) where
+  pub step-is : (n left : ℕ) → stepOf n left setup starts i e r ≡ stageStep (setup .rate) (spanOf n left setup starts (i + 1) e) (stageAt setup i) r
   unfolding stepOf
   step-is n left = refl
 
-  pub span-zero : (left : ℕ) → spanOf zero left rate l starts i e r ≡ r
+  pub span-zero : (left : ℕ) → spanOf zero left setup starts i e r ≡ r
   unfolding spanOf
   span-zero left = refl
 
-  pub span-shallow : (n : ℕ) → spanOf (suc n) zero rate l starts i e r ≡ r
+  pub span-shallow : (n : ℕ) → spanOf (suc n) zero setup starts i e r ≡ r
   unfolding spanOf
   span-shallow n = refl
 
   -- the stage at i on the front, and those from the next on, on the rest
-  pub span-is : (n left : ℕ) → spanOf (suc n) (suc left) rate l starts i e r
+  pub span-is : (n left : ℕ) → spanOf (suc n) (suc left) setup starts i e r
       ≡ cond (ltb i e)
-      (inTurn (sizeOf starts i (nextPlace (stageAt l i) i e)) (nextPlace (stageAt l i) i e - i)
-      (stepOf n left rate l starts i (nextPlace (stageAt l i) i e))
-      (spanOf n (suc left) rate l starts (nextPlace (stageAt l i) i e) e)
+      (inTurn (sizeOf starts i (nextPlace (stageAt setup i) i e)) (nextPlace (stageAt setup i) i e - i)
+      (stepOf n left setup starts i (nextPlace (stageAt setup i) i e))
+      (spanOf n (suc left) setup starts (nextPlace (stageAt setup i) i e) e)
       r)
       r
   unfolding spanOf stepOf
   span-is n left = refl
 
-  pub place-is : processAt rate l starts i e r ≡ cond (ltb i e && leb e 16) (stepOf 16 3 rate l starts i e r) r
+  pub place-is : processAt setup starts i e r ≡ cond (ltb i e && leb e places) (stepOf places 3 setup starts i e r) r
   unfolding processAt
   place-is = refl
