@@ -1,17 +1,15 @@
 -- What a step leaves of the store, of the positions and of the floats is as long as what it had, whatever that was. Assumes nothing.
-use mathlib.Core.Path.{_≡_, refl}
+use mathlib.Core.Path.{refl}
 use mathlib.Core.Bool.{_&&_}
 use mathlib.Core.List.{List}
 use Prim.Native.Nat.{ℕ, zero, suc, _+_, _*_}
 use lib.Dec.{ltb, leb}
 use lib.IntN.{ℤ}
 use lib.Ieee.{Float}
-use lib.ListN.{length, length-set}
+use lib.ListN.{length-set}
 use Rattle.integrators.specs.declared.Integrators.{Integrators}
-use Rattle.integrators.specs.declared.Filtered.{Filtered}
-use Rattle.frame.specs.declared.Frame.{Frame}
-use Rattle.line.specs.Held.{front, Ran}
-use Rattle.line.proofs.Keeps.{Keeps, same-refl, cond-keeps, joined-keeps, frame-in-keeps}
+use Rattle.line.specs.Held.{Held, holds, front, Ran}
+use Rattle.line.proofs.Keeps.{Same, Keeps, same-refl, cond-keeps, joined-keeps, frame-in-keeps}
 use Rattle.reverb.proofs.Keeps.{reverb-keeps}
 use Rattle.memories.specs.Sizes.{places, placePositions, placeFloats}
 use Rattle.memories.specs.Kinds.{remember}
@@ -19,18 +17,15 @@ use Rattle.stage.specs.declared.kind.Stage.{Stage}
 use Rattle.stage.specs.declared.kind.Stage.the-variants.{VolumeControl, PanningControl, Distortion, Filter, EqFilter, Reverb, Delay}
 use Rattle.stage.specs.declared.setup.Setup.{Setup}
 use Rattle.stage.specs.Setup.{stageAt}
-use Rattle.step.specs.Step.{remembering, delayStage, stageStep, inTurn, spanOf, stepOf, processAt}
-use Rattle.step.proofs.Levels.{volume-is, panning-is, distortion-is, filter-is, eq-is, reverb-is, delay-is, step-is, span-zero, span-shallow, span-is, place-is}
+use Rattle.step.specs.Step.{delayStage, stageStep, inTurn, spanOf, stepOf, processAt}
+use Rattle.step.proofs.Levels.{step-is, span-zero, span-shallow, span-is, place-is}
 
 -- ---- a stage
 
-remember-keeps : (memory : Integrators) (floats : List Float) → length (remember memory floats) ≡ length floats
+-- a filter or an EQ
+remember-keeps : (memory : Integrators) (h : Held) → Same (holds (h .store) (h .positions) (remember memory (h .floats))) h
 unfolding remember
-remember-keeps memory floats = simp frame-in-keeps
-
-remembering-keeps : (f : Integrators → Frame → Filtered) → Keeps (remembering f)
-unfolding remembering
-remembering-keeps f r = record { store = refl; positions = refl; floats = remember-keeps _ _ }
+remember-keeps memory h = record { store = refl; positions = refl; floats = simp frame-in-keeps }
 
 module _ (inner : Ran → Ran) (keeps : Keeps inner) where
   delay-keeps : (frames : ℕ) (feedback : ℤ) (mix : Float) → Keeps (delayStage frames feedback mix inner)
@@ -38,13 +33,14 @@ module _ (inner : Ran → Ran) (keeps : Keeps inner) where
   delay-keeps frames feedback mix r = joined-keeps (2 * frames) placePositions placeFloats _ _ (r .held) record { store = frame-in-keeps _ _ _; positions = simp length-set; floats = refl } (keeps _)
 
   stage-keeps : (rate : ℕ) (s : Stage) → Keeps (stageStep rate inner s)
-  stage-keeps rate (VolumeControl volume) r = rw volume-is (same-refl (r .held))
-  stage-keeps rate (PanningControl panning) r = rw panning-is (same-refl (r .held))
-  stage-keeps rate (Distortion kind drive mix) r = rw distortion-is (same-refl (r .held))
-  stage-keeps rate (Filter mode g resonance mix) r = rw filter-is (remembering-keeps _ r)
-  stage-keeps rate (EqFilter kind g gain q) r = rw eq-is (remembering-keeps _ r)
-  stage-keeps rate (Reverb feedback damping width mix) r = rw reverb-is (reverb-keeps rate feedback damping width mix r)
-  stage-keeps rate (Delay frames feedback mix owned) r = rw delay-is (delay-keeps frames feedback mix r)
+  unfolding stageStep
+  stage-keeps rate (VolumeControl volume) r = same-refl (r .held)
+  stage-keeps rate (PanningControl panning) r = same-refl (r .held)
+  stage-keeps rate (Distortion kind drive mix) r = same-refl (r .held)
+  stage-keeps rate (Filter mode g resonance mix) r = remember-keeps _ (r .held)
+  stage-keeps rate (EqFilter kind g gain q) r = remember-keeps _ (r .held)
+  stage-keeps rate (Reverb feedback damping width mix) r = reverb-keeps rate feedback damping width mix r
+  stage-keeps rate (Delay frames feedback mix owned) r = delay-keeps frames feedback mix r
 
 -- ---- stages in turn
 

@@ -26,7 +26,7 @@ use Rattle.reverb.proofs.Levels.{mono, both, fits, side-is, reverbed-is, reverb
 abbrev pub OnLines : List ℕ → List ℕ → Type 0
 OnLines lines ps = (k : ℕ) → k < length lines → getD ps k 0 < getD lines k 0
 
-abbrev pub Positive : List ℕ → Type 0
+abbrev Positive : List ℕ → Type 0
 Positive lines = (k : ℕ) → k < length lines → 0 < getD lines k 0
 
 pub next-on : (at n : ℕ) → 0 < n → nextPosition at n < n

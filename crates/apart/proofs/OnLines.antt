@@ -28,8 +28,8 @@ use Rattle.stage.specs.Setup.{stageAt, nextPlace}
 use Rattle.stage.specs.Lines.{lengthsOf, linesOf}
 use Rattle.stage.proofs.Next.{next-le, next-more}
 use Rattle.stage.proofs.FewLines.{few-lines}
-use Rattle.step.specs.Step.{remembering, delayStage, stageStep, inTurn, spanOf, stepOf, processAt}
-use Rattle.step.proofs.Levels.{volume-is, panning-is, distortion-is, filter-is, eq-is, reverb-is, delay-is, step-is, span-zero, span-shallow, span-is, place-is}
+use Rattle.step.specs.Step.{delayStage, stageStep, inTurn, spanOf, stepOf, processAt}
+use Rattle.step.proofs.Levels.{step-is, span-zero, span-shallow, span-is, place-is}
 use Rattle.apart.proofs.Keeps.{step-keeps}
 use Rattle.apart.proofs.Moved.{OnLines, Moved, moved-first, next-on, reverb-moves}
 
@@ -111,16 +111,16 @@ module _ (setup : Setup) where
         (stays rest (omega (arith, length-drop placePositions ps)) (rw one at (good-back i (i + 1) e ps (omega arith) g)))
 
     stage-stays : (s : Stage) → stageAt setup i ≡ s → Stays i e (stageStep (setup .rate) inner s)
-    unfolding remembering holdingOf lengthsOf
-    stage-stays (VolumeControl volume) q r n g = rw volume-is g
-    stage-stays (PanningControl panning) q r n g = rw panning-is g
-    stage-stays (Distortion kind drive mix) q r n g = rw distortion-is g
-    stage-stays (Filter mode tan resonance mix) q r n g = rw filter-is g
-    stage-stays (EqFilter kind tan gain sharp) q r n g = rw eq-is g
+    unfolding stageStep holdingOf lengthsOf
+    stage-stays (VolumeControl volume) q r n g = g
+    stage-stays (PanningControl panning) q r n g = g
+    stage-stays (Distortion kind drive mix) q r n g = g
+    stage-stays (Filter mode tan resonance mix) q r n g = g
+    stage-stays (EqFilter kind tan gain sharp) q r n g = g
     stage-stays (Reverb feedback damping width mix) q r n g =
         let ps = reverbOf (setup .rate) feedback damping width mix r .held .positions in
-        rw reverb-is (moved-stays i e (r .held .positions) ps h (λ on. rw q (reverb-moves (setup .rate) feedback damping width mix r (rw q at on))) g)
-    stage-stays (Delay frames feedback mix owned) q r n g = rw delay-is (delay-stays frames feedback mix owned q r n g)
+        moved-stays i e (r .held .positions) ps h (λ on. rw q (reverb-moves (setup .rate) feedback damping width mix r (rw q at on))) g
+    stage-stays (Delay frames feedback mix owned) q r n g = delay-stays frames feedback mix owned q r n g
 
   -- ---- stages in turn, and a step
 
