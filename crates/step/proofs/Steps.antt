@@ -13,20 +13,17 @@ use Rattle.decibels.specs.Amplitude.{amplitudeOf}
 use Rattle.frame.specs.declared.Frame.{Frame}
 use Rattle.frame.specs.Operations.{addOf, mulOf}
 use Rattle.frame.specs.Mix.{mixOf}
-use Rattle.integrators.specs.declared.Integrators.{Integrators}
-use Rattle.integrators.specs.declared.Filtered.{Filtered}
 use Rattle.line.specs.Held.{Held, holds, front, back, joined, Ran, ran}
 use Rattle.line.specs.Position.{nextPosition}
 use Rattle.line.specs.Frames.{frameAt, frameIn}
 use Rattle.line.proofs.Lent.{lent, home}
 use Rattle.memories.specs.Sizes.{places, placePositions, placeFloats}
-use Rattle.memories.specs.Kinds.{remembered, remember}
 use Rattle.memories.specs.Places.{frontPlaces, backPlaces}
 use Rattle.stage.specs.declared.kind.Stage.{Stage}
 use Rattle.stage.specs.declared.setup.Setup.{Setup}
 use Rattle.stage.specs.Setup.{stageAt, nextPlace}
 use Rattle.stage.specs.Layout.{sizeOf}
-use Rattle.step.specs.Step.{remembering, delayStage, stageStep, inTurn, spanOf, stepOf, processAt}
+use Rattle.step.specs.Step.{delayStage, stageStep, inTurn, spanOf, stepOf, processAt}
 use Rattle.step.proofs.Lent.{front-is, lent-is, home-is, home-front, home-rest, then-lent, then-home, set-front}
 use Rattle.step.proofs.Levels.{step-is, span-zero, span-shallow, span-is, place-is}
 
@@ -36,13 +33,6 @@ pub step-by : (setup : Setup) (starts : List ℕ) (i e left : ℕ) (r z : Ran) (
     → ((n : ℕ) → e - (i + 1) ≤ n → z ≡ stageStep (setup .rate) (spanOf n left setup starts (i + 1) e) s r)
     → (n : ℕ) → e - (i + 1) ≤ n → z ≡ stepOf n left setup starts i e r
 step-by setup starts i e left r z s q met n g = rw (step-is, q) (met n g)
-
--- a filter or an EQ: it recalls its two frames, makes a frame of them and of the next one, and keeps what it then remembers
-pub remembering-met : (f : Integrators → Frame → Filtered) (x y : Frame) (memory : Integrators) (done : Filtered) (st : List Float) (po : List ℕ) (fl kept : List Float)
-    → memory ≡ remembered fl → done ≡ f memory x → y ≡ done .output → kept ≡ remember (done .after) fl
-    → ran y (holds st po kept) ≡ remembering f (ran x (holds st po fl))
-unfolding remembering
-remembering-met f x y memory done st po fl kept m d o k = rw (o, k, d, m)
 
 -- ---- a span
 

@@ -1,4 +1,4 @@
--- The measures of the three, and what each may use of its callees: of one of the three, that it meets its contract at a smaller measure.
+-- The measures of the three, and what each may use of its callees: of one of the three, that it meets its contract at a smaller measure. Assumes nothing.
 -- A span is above its first step, a step above its delay, and a delay above the span of its own stages, which begins one place later.
 use Prim.Native.Nat.{ℕ, _+_, _*_, _-_, _<_}
 use borrow.Fn.Kinds.{In}
