@@ -18,7 +18,13 @@ use Rattle.tuning.specs.Tuning.{sideCombs, sideLines, combCount, lineCount, rev
 use Rattle.tuning.proofs.Tunings.{total-split, lines-length, floats-are}
 use Rattle.reverb.specs.Reverb.{Heard, heard, combOf, passOf, linesInTurn, sideOf, reverbed, reverbOf}
 use Rattle.reverb.proofs.Keeps.{side-keeps}
-use Rattle.reverb.proofs.Levels.{mono, both, fits, side-is, reverbed-is, reverb-is}
+use Rattle.reverb.proofs.Levels.{mono, both, side-is, reverbed-is, reverb-is}
+
+-- ---- what holds of b, and of a where the test passes, holds of the choice
+
+pub cond-by : {A : Type 0} (P : A → Type 0) (t : Bool) (a b : A) → (t ≡ true → P a) → P b → P (cond t a b)
+cond-by P true a b p q = p refl
+cond-by P false a b p q = q
 
 -- ---- positions on lines
 
@@ -147,25 +153,25 @@ module _ (rate : ℕ) (feedback damping width mix : Float) (r : Ran) where
       let x = mono (r .frame) in
       let ps = r .held .positions in
       let all : n + total m ≡ reverbFloats rate = total-split sideLines lines ∙ sym (floats-are rate) in
-      let l-half : length l ≡ sideLines = length-take-le sideLines lines (omega (arith, lines-length rate)) in
-      let m-half : length m ≡ sideLines = omega (arith, length-drop sideLines lines, lines-length rate) in
+      let l-size : length l ≡ sideLines = length-take-le sideLines lines (omega (arith, lines-length rate)) in
+      let m-size : length m ≡ sideLines = omega (arith, length-drop sideLines lines, lines-length rate) in
       let taken : length (take sideLines ps) ≡ sideLines = length-take-le sideLines ps (omega arith) in
       let left = side-moves l feedback damping (positive-front sideLines lines pos) x (front n sideLines sideCombs (r .held)) (omega (arith, length-take-le n (r .held .store) (omega arith))) (omega arith) in
       let right = side-moves m feedback damping (positive-back sideLines lines pos) x (back n sideLines sideCombs (r .held)) (left-over n _ (r .held .store) (omega arith)) (left-over sideLines _ ps (omega arith)) in
       let a = sideOf l feedback damping x (front n sideLines sideCombs (r .held)) .held .positions in
       let b = sideOf m feedback damping x (back n sideLines sideCombs (r .held)) .held .positions in
-      let size : length a ≡ length l = side-keeps l feedback damping x (front n sideLines sideCombs (r .held)) .positions ∙ taken ∙ sym l-half in
-      rw reverbed-is (rw (take-append-drop sideLines lines) at (moved-join l m ps a b size (rw l-half left) (rw l-half right)))
+      let size : length a ≡ length l = side-keeps l feedback damping x (front n sideLines sideCombs (r .held)) .positions ∙ taken ∙ sym l-size in
+      rw reverbed-is (rw (take-append-drop sideLines lines) at (moved-join l m ps a b size (rw l-size left) (rw l-size right)))
 
   -- also where it has no room, and changes nothing
   pub reverb-moves : OnLines (reverbLines rate) (r .held .positions) → Moved (reverbLines rate) (r .held .positions) (reverbOf rate feedback damping width mix r .held .positions)
-  reverb-moves on = rw reverb-is (go (fits rate (r .held)) refl)
-    where
-      go : (t : Bool) → fits rate (r .held) ≡ t → Moved (reverbLines rate) (r .held .positions) (cond t (reverbed rate feedback damping width mix r) r .held .positions)
-      go false q = record { on = on; rest = refl }
-      go true q =
-          let s = leb (reverbFloats rate) (length (r .held .store)) in
-          let p = leb lineCount (length (r .held .positions)) in
-          let sp = and-eq-true-iff (s && p) (leb combCount (length (r .held .floats))) .0 q in
-          let both = and-eq-true-iff s p .0 (sp .0) in
-          reverbed-moves (λ k h. omega (arith, on k h)) (leb-true _ _ (both .0)) (leb-true _ _ (both .1))
+  reverb-moves on =
+      let s = leb (reverbFloats rate) (length (r .held .store)) in
+      let p = leb lineCount (length (r .held .positions)) in
+      let f = leb combCount (length (r .held .floats)) in
+      rw reverb-is
+      (cond-by (λ (z : Ran). Moved (reverbLines rate) (r .held .positions) (z .held .positions)) (s && p && f) _ r
+      (λ t.
+      let room = and-eq-true-iff s p .0 (and-eq-true-iff (s && p) f .0 t .0) in
+      reverbed-moves (λ k h. omega (arith, on k h)) (leb-true _ _ (room .0)) (leb-true _ _ (room .1)))
+      record { on = on; rest = refl })

@@ -1,7 +1,7 @@
 -- Positions stay on their lines: if each remembered position of the stages from i up to e is below its line's length, then it is so after a step, which the crate above needs for a block that is cut. Assumes nothing.
 -- Neither the store's length nor the shape of the list matters for that, and that each line has a length at all is in what is assumed.
 use mathlib.Core.Path.{_≡_, refl, ap, sym, _∙_}
-use mathlib.Core.Bool.{Bool, true, false, cond, _&&_, and-eq-true-iff}
+use mathlib.Core.Bool.{_&&_, and-eq-true-iff}
 use mathlib.Core.List.{List, _++_}
 use Prim.Native.Nat.{ℕ, zero, suc, _+_, _*_, _-_, _≤_, _<_}
 use native.Mathlib.Omega.{arith}
@@ -31,7 +31,7 @@ use Rattle.stage.proofs.FewLines.{few-lines}
 use Rattle.step.specs.Step.{delayStage, stageStep, inTurn, spanOf, stepOf, processAt}
 use Rattle.step.proofs.Levels.{step-is, span-zero, span-shallow, span-is, place-is}
 use Rattle.apart.proofs.Keeps.{step-keeps}
-use Rattle.apart.proofs.Moved.{OnLines, Moved, moved-first, next-on, reverb-moves}
+use Rattle.apart.proofs.Moved.{cond-by, OnLines, Moved, moved-first, next-on, reverb-moves}
 
 -- the lines of the stage at place j
 abbrev pub linesAt : Setup → ℕ → List ℕ
@@ -135,11 +135,6 @@ module _ (setup : Setup) where
       (sf front-part (omega arith) (good-front i m e ps me good))
       (sg back-part (omega (arith, length-drop (placePositions * (m - i)) ps)) (good-back i m e ps im good))
 
-  -- where a step is not taken, nothing moves
-  cond-stays : (i e : ℕ) (t : Bool) (a r : Ran) → (t ≡ true → Good setup i e (a .held .positions)) → Good setup i e (r .held .positions) → Good setup i e (cond t a r .held .positions)
-  cond-stays i e true a r p g = p refl
-  cond-stays i e false a r p g = g
-
   module _ (starts : List ℕ) where
     span-stays : (n left i e : ℕ) → Stays i e (spanOf n left setup starts i e)
     span-stays zero left i e r k g = rw span-zero g
@@ -147,7 +142,7 @@ module _ (setup : Setup) where
     span-stays (suc n) (suc left) i e r k g =
         let next = nextPlace (stageAt setup i) i e in
         rw span-is
-        (cond-stays i e (ltb i e) _ r
+        (cond-by (λ (z : Ran). Good setup i e (z .held .positions)) (ltb i e) _ r
         (λ t.
         let further : i < next = next-more (stageAt setup i) i e (ltb-true i e t) in
         turn-stays i next e _ _ _ (omega arith) (next-le (stageAt setup i) i e) (step-keeps setup starts i next n left)
@@ -160,7 +155,7 @@ module _ (setup : Setup) where
       step-stays n left h r k g = rw step-is (stage-stays i e h _ (span-stays n left (i + 1) e) (stageAt setup i) refl r k g)
 
       pub place-stays : Stays i e (processAt setup starts i e)
-      place-stays r k g = rw place-is (cond-stays i e (ltb i e && leb e places) _ r (λ t. step-stays places 3 (ltb-true i e (and-eq-true-iff (ltb i e) (leb e places) .0 t .0)) r k g) g)
+      place-stays r k g = rw place-is (cond-by (λ (z : Ran). Good setup i e (z .held .positions)) (ltb i e && leb e places) _ r (λ t. step-stays places 3 (ltb-true i e (and-eq-true-iff (ltb i e) (leb e places) .0 t .0)) r k g) g)
 
   -- ---- the same of all positions, of which a step is lent those of the places from i up to e
 
