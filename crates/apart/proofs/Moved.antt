@@ -14,11 +14,17 @@ use Rattle.line.specs.AllPass.{passedOf}
 use Rattle.line.specs.Comb.{combedOf}
 use Rattle.line.specs.Held.{Held, front, back, joined, Ran}
 use Rattle.line.specs.Position.{nextPosition}
-use Rattle.tuning.specs.Tuning.{reverbLines, total, reverbFloats}
+use Rattle.tuning.specs.Tuning.{sideCombs, sideLines, combCount, lineCount, reverbLines, total, reverbFloats}
 use Rattle.tuning.proofs.Tunings.{total-split, lines-length, floats-are}
 use Rattle.reverb.specs.Reverb.{Heard, heard, combOf, passOf, linesInTurn, sideOf, reverbed, reverbOf}
 use Rattle.reverb.proofs.Keeps.{side-keeps}
-use Rattle.reverb.proofs.Levels.{mono, both, fits, side-is, reverbed-is, reverb-is}
+use Rattle.reverb.proofs.Levels.{mono, both, side-is, reverbed-is, reverb-is}
+
+-- ---- what holds of b, and of a where the test passes, holds of the choice
+
+pub cond-by : {A : Type 0} (P : A → Type 0) (t : Bool) (a b : A) → (t ≡ true → P a) → P b → P (cond t a b)
+cond-by P true a b p q = p refl
+cond-by P false a b p q = q
 
 -- ---- positions on lines
 
@@ -26,7 +32,7 @@ use Rattle.reverb.proofs.Levels.{mono, both, fits, side-is, reverbed-is, reverb
 abbrev pub OnLines : List ℕ → List ℕ → Type 0
 OnLines lines ps = (k : ℕ) → k < length lines → getD ps k 0 < getD lines k 0
 
-abbrev pub Positive : List ℕ → Type 0
+abbrev Positive : List ℕ → Type 0
 Positive lines = (k : ℕ) → k < length lines → 0 < getD lines k 0
 
 pub next-on : (at n : ℕ) → 0 < n → nextPosition at n < n
@@ -57,6 +63,11 @@ moved-more n lines (p ∷ ps) zs v h g m = record { on = on; rest = m .rest }
     on : OnLines (n ∷ lines) (v ∷ zs)
     on zero q = g
     on (suc k) q = m .on k (omega arith)
+
+-- one line
+pub moved-first : (n v : ℕ) (ps : List ℕ) → 0 < length ps → v < n → Moved (n ∷ []) ps (set ps 0 v)
+moved-first n v [] h g = absurd (omega arith)
+moved-first n v (p ∷ ps) h g = moved-more n [] (p ∷ ps) ps v h g (moved-none ps)
 
 module _ (l r ps a b : List ℕ) (e : length a ≡ length l) where
   moved-join : Moved l (take (length l) ps) a → Moved r (drop (length l) ps) b → Moved (l ++ r) ps (a ++ b)
@@ -123,44 +134,44 @@ module _ (f : ℕ) (step next : Float → Held → Heard) (on : MovesOn step) (a
 -- a side's eight combs and four all-passes
 side-moves : (lines : List ℕ) (feedback damping : Float) → Positive lines → Moves lines (sideOf lines feedback damping)
 side-moves lines feedback damping pos x h s p =
-    let c = take 8 lines in
-    let a = drop 8 lines in
-    let passes = lines-move 0 passOf heard pass-moves-on [] (λ x h s p. moved-none (h .positions)) a (positive-back 8 lines pos) in
-    let combs = lines-move 1 (combOf feedback damping x) (linesInTurn 0 passOf heard a) (comb-moves-on feedback damping x) a (rw (append-nil a) at passes) c (positive-front 8 lines pos) in
-    rw side-is ((rw (take-append-drop 8 lines) at combs) _ h s p)
+    let c = take sideCombs lines in
+    let a = drop sideCombs lines in
+    let passes = lines-move 0 passOf heard pass-moves-on [] (λ x h s p. moved-none (h .positions)) a (positive-back sideCombs lines pos) in
+    let combs = lines-move 1 (combOf feedback damping x) (linesInTurn 0 passOf heard a) (comb-moves-on feedback damping x) a (rw (append-nil a) at passes) c (positive-front sideCombs lines pos) in
+    rw side-is ((rw (take-append-drop sideCombs lines) at combs) _ h s p)
 
 -- ---- a reverb
 
 module _ (rate : ℕ) (feedback damping width mix : Float) (r : Ran) where
-  reverbed-moves : Positive (reverbLines rate) → reverbFloats rate ≤ length (r .held .store) → 24 ≤ length (r .held .positions) → Moved (reverbLines rate) (r .held .positions) (reverbed rate feedback damping width mix r .held .positions)
+  reverbed-moves : Positive (reverbLines rate) → reverbFloats rate ≤ length (r .held .store) → lineCount ≤ length (r .held .positions) → Moved (reverbLines rate) (r .held .positions) (reverbed rate feedback damping width mix r .held .positions)
   unfolding both front back joined
   reverbed-moves pos s p =
       let lines = reverbLines rate in
-      let l = take 12 lines in
-      let m = drop 12 lines in
+      let l = take sideLines lines in
+      let m = drop sideLines lines in
       let n = total l in
       let x = mono (r .frame) in
       let ps = r .held .positions in
-      let all : n + total m ≡ reverbFloats rate = total-split 12 lines ∙ sym (floats-are rate) in
-      let l-12 : length l ≡ 12 = length-take-le 12 lines (omega (arith, lines-length rate)) in
-      let m-12 : length m ≡ 12 = omega (arith, length-drop 12 lines, lines-length rate) in
-      let taken : length (take 12 ps) ≡ 12 = length-take-le 12 ps (omega arith) in
-      let left = side-moves l feedback damping (positive-front 12 lines pos) x (front n 12 8 (r .held)) (omega (arith, length-take-le n (r .held .store) (omega arith))) (omega arith) in
-      let right = side-moves m feedback damping (positive-back 12 lines pos) x (back n 12 8 (r .held)) (left-over n _ (r .held .store) (omega arith)) (left-over 12 _ ps (omega arith)) in
-      let a = sideOf l feedback damping x (front n 12 8 (r .held)) .held .positions in
-      let b = sideOf m feedback damping x (back n 12 8 (r .held)) .held .positions in
-      let size : length a ≡ length l = side-keeps l feedback damping x (front n 12 8 (r .held)) .positions ∙ taken ∙ sym l-12 in
-      rw reverbed-is (rw (take-append-drop 12 lines) at (moved-join l m ps a b size (rw l-12 left) (rw l-12 right)))
+      let all : n + total m ≡ reverbFloats rate = total-split sideLines lines ∙ sym (floats-are rate) in
+      let l-size : length l ≡ sideLines = length-take-le sideLines lines (omega (arith, lines-length rate)) in
+      let m-size : length m ≡ sideLines = omega (arith, length-drop sideLines lines, lines-length rate) in
+      let taken : length (take sideLines ps) ≡ sideLines = length-take-le sideLines ps (omega arith) in
+      let left = side-moves l feedback damping (positive-front sideLines lines pos) x (front n sideLines sideCombs (r .held)) (omega (arith, length-take-le n (r .held .store) (omega arith))) (omega arith) in
+      let right = side-moves m feedback damping (positive-back sideLines lines pos) x (back n sideLines sideCombs (r .held)) (left-over n _ (r .held .store) (omega arith)) (left-over sideLines _ ps (omega arith)) in
+      let a = sideOf l feedback damping x (front n sideLines sideCombs (r .held)) .held .positions in
+      let b = sideOf m feedback damping x (back n sideLines sideCombs (r .held)) .held .positions in
+      let size : length a ≡ length l = side-keeps l feedback damping x (front n sideLines sideCombs (r .held)) .positions ∙ taken ∙ sym l-size in
+      rw reverbed-is (rw (take-append-drop sideLines lines) at (moved-join l m ps a b size (rw l-size left) (rw l-size right)))
 
   -- also where it has no room, and changes nothing
   pub reverb-moves : OnLines (reverbLines rate) (r .held .positions) → Moved (reverbLines rate) (r .held .positions) (reverbOf rate feedback damping width mix r .held .positions)
-  reverb-moves on = rw reverb-is (go (fits rate (r .held)) refl)
-    where
-      go : (t : Bool) → fits rate (r .held) ≡ t → Moved (reverbLines rate) (r .held .positions) (cond t (reverbed rate feedback damping width mix r) r .held .positions)
-      go false q = record { on = on; rest = refl }
-      go true q =
-          let s = leb (reverbFloats rate) (length (r .held .store)) in
-          let p = leb 24 (length (r .held .positions)) in
-          let sp = and-eq-true-iff (s && p) (leb 16 (length (r .held .floats))) .0 q in
-          let both = and-eq-true-iff s p .0 (sp .0) in
-          reverbed-moves (λ k h. omega (arith, on k h)) (leb-true _ _ (both .0)) (leb-true _ _ (both .1))
+  reverb-moves on =
+      let s = leb (reverbFloats rate) (length (r .held .store)) in
+      let p = leb lineCount (length (r .held .positions)) in
+      let f = leb combCount (length (r .held .floats)) in
+      rw reverb-is
+      (cond-by (λ (z : Ran). Moved (reverbLines rate) (r .held .positions) (z .held .positions)) (s && p && f) _ r
+      (λ t.
+      let room = and-eq-true-iff s p .0 (and-eq-true-iff (s && p) f .0 t .0) in
+      reverbed-moves (λ k h. omega (arith, on k h)) (leb-true _ _ (room .0)) (leb-true _ _ (room .1)))
+      record { on = on; rest = refl })

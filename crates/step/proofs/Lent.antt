@@ -10,14 +10,14 @@ use Rattle.line.proofs.Lent.{lent, home, home-again, rest-lent, rest-home}
 
 -- to take or drop as many as there are is to take or drop all
 module _ {A : Type 0} (m : ℕ) (xs : List A) where
-  pub take-min : take (min m (length xs)) xs ≡ take m xs
+  take-min : take (min m (length xs)) xs ≡ take m xs
   take-min = go (decLt m (length xs))
     where
       go : Dec (m < length xs) → take (min m (length xs)) xs ≡ take m xs
       go (yes h) = let e : min m (length xs) ≡ m = omega arith in rw e
       go (no h) = let e : min m (length xs) ≡ length xs = omega arith in rw (e, take-length xs, take-all m xs (omega arith))
 
-  pub drop-min : drop (min m (length xs)) xs ≡ drop m xs
+  drop-min : drop (min m (length xs)) xs ≡ drop m xs
   drop-min = go (decLt m (length xs))
     where
       go : Dec (m < length xs) → drop (min m (length xs)) xs ≡ drop m xs
@@ -29,10 +29,10 @@ module _ {A : Type 0} (m n : ℕ) (xs : List A) (e : n ≡ min m (length xs)) wh
   pub front-is : take n xs ≡ take m xs
   front-is = ap (λ k. take k xs) e ∙ take-min m xs
 
-  pub rest-is : drop n xs ≡ drop m xs
+  rest-is : drop n xs ≡ drop m xs
   rest-is = ap (λ k. drop k xs) e ∙ drop-min m xs
 
-  pub front-length : length (take n xs) ≡ n
+  front-length : length (take n xs) ≡ n
   front-length = omega (arith, length-take n xs)
 
   -- the rest was lent, and is back as zs

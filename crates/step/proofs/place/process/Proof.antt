@@ -3,15 +3,16 @@ use mathlib.Core.Path.{sym}
 use Prim.Native.Nat.{_≤_, _<_}
 use native.Mathlib.Omega.{arith}
 use borrow.Author.Needs.{needs}
+use Rattle.memories.specs.Sizes.{places}
 use Rattle.step.proofs.Steps.{place-inside, place-empty, place-past}
 use Rattle.step.proofs.place.process.Statement.{statement}
 use Rattle.step.proofs.place.process.Tie as tie
 
 returns : tie.Need-returns
-returns c = sym (place-empty _ _ _ _ _ _ (omega arith))
+returns c = sym (place-empty _ _ _ _ _ (omega arith))
 
 returns-2 : tie.Need-returns-2
-returns-2 c = sym (place-past _ _ _ _ _ _ (omega arith))
+returns-2 c = sym (place-past _ _ _ _ _ (omega arith))
 
 step-requires : tie.Need-step-requires
 step-requires c κs = search needs
@@ -31,8 +32,8 @@ returns-3 c =
     let tested = stepped .before .before .before .before in
     let start = tested .before .before .before .before .before in
     let i-e : start .args .i < start .args .e = omega (arith, tested .before .if1 .left) in
-    let e-16 : start .args .e ≤ 16 = omega (arith, tested .if2 .left) in
-    rw (place-inside _ _ _ _ _ _ i-e e-16) (stepped .step .ensures 16 (omega arith))
+    let e-placed : start .args .e ≤ places = omega (arith, tested .if2 .left) in
+    rw (place-inside _ _ _ _ _ i-e e-placed) (stepped .step .ensures places (omega arith))
 
 pub process-spec : {M : Type 1} → statement M
 process-spec =

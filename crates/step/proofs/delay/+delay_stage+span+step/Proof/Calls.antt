@@ -1,4 +1,4 @@
--- The measures of the three, and what each may use of its callees: of one of the three, that it meets its contract at a smaller measure.
+-- The measures of the three, and what each may use of its callees: of one of the three, that it meets its contract at a smaller measure. Assumes nothing.
 -- A span is above its first step, a step above its delay, and a delay above the span of its own stages, which begins one place later.
 use Prim.Native.Nat.{ℕ, _+_, _*_, _-_, _<_}
 use borrow.Fn.Kinds.{In}
@@ -24,23 +24,23 @@ use Rattle.frame.proofs.Frame.mul.Reads as mul-reads
 use Rattle.line.proofs.frames.frame_at.Reads as frame-at-reads
 use Rattle.line.proofs.frames.put_frame.Reads as put-frame-reads
 use Rattle.line.proofs.position.next_position.Reads as next-position-reads
+use Rattle.memories.proofs.keep.Reads as keep-reads
+use Rattle.memories.proofs.recall.Reads as recall-reads
 use Rattle.reverb.proofs.process.Reads as reverb-reads
 use Rattle.stage.proofs.layout.next_place.Reads as next-place-reads
 use Rattle.stage.proofs.layout.number_at.Reads as number-at-reads
 use Rattle.stage.proofs.layout.size_between.Reads as size-between-reads
 use Rattle.step.proofs.delay.lesser.Reads as lesser-reads
 use Rattle.step.proofs.delay.put_first.Reads as put-first-reads
-use Rattle.step.proofs.memory.keep.Reads as keep-reads
-use Rattle.step.proofs.memory.recall.Reads as recall-reads
 
 abbrev pub μ-delay-stage : Measures 4 delay-stage-kinds.ps ℕ
-μ-delay-stage κs a = 3 * (a .1 .1 .1 .1 .0 - a .1 .1 .1 .0)
+μ-delay-stage κs a = 3 * (a .1 .1 .1 .0 - a .1 .1 .0)
 
 abbrev pub μ-step : Measures 4 step-kinds.ps ℕ
-μ-step κs a = 3 * (a .1 .1 .1 .1 .0 - a .1 .1 .1 .0) + 1
+μ-step κs a = 3 * (a .1 .1 .1 .0 - a .1 .1 .0) + 1
 
 abbrev pub μ-span : Measures 4 span-kinds.ps ℕ
-μ-span κs a = 3 * (a .1 .1 .1 .1 .0 - a .1 .1 .1 .0) + 2
+μ-span κs a = 3 * (a .1 .1 .1 .0 - a .1 .1 .0) + 2
 
 abbrev pub delay-stage-at : ℕ → In 4 delay-stage-kinds.ps
 delay-stage-at t = and 4 delay-stage-kinds.ps (is 4 delay-stage-kinds.ps μ-delay-stage t) delay-stage.Pre

@@ -113,7 +113,7 @@ delay-stage-met t =
     let after-lesser2 = after-lesser3 .before in
     let after-lesser = after-lesser2 .before in
     let start = after-lesser .before .before .before .before in
-    let b = after-span .span .last .1 .1 .1 .1 .1 .1 .1 in
+    let b = after-span .span .last .1 .1 .1 .1 .1 .1 in
     (λ n g. delay-lent _ _ _ _ _ _ _ _ _ _ _ _ _ _ _ _ (now (start .args .store)) (now (start .args .positions)) (now (start .args .floats)) _ _ (holds (b .0) (b .1 .0) (b .1 .1 .0))
     (after-lesser .lesser .ensures) (after-lesser2 .lesser2 .ensures) (after-lesser3 .lesser3 .ensures) (after-positions .positions .given .0) (after-number-at .number-at .ensures) (after-frame-at .frame-at .ensures) (after-span .span .ensures n g)
     (after-amplitude .amplitude .ensures ∙ ap amplitudeOf (toZ-ofZ w32 (start .args .feedback) (start .fits .feedback))) (after-mul .mul .ensures) (after-add .add .ensures) (after-put-frame .put-frame .ensures) (after-next-position .next-position .ensures) (after-put-first .put-first .ensures) (c .mixed .ensures)))

@@ -24,12 +24,12 @@ pub span-met : {M : Type 1} (t : ℕ) → span-lts.Closed (span-calls t) (span-a
 span-met t =
     span-lts.spec (span-calls t) (span-at t) span.Post
     -- returns
-    (λ c. span-no-depth _ _ _ _ _ _ _ (omega arith))
+    (λ c. span-no-depth _ _ _ _ _ _ (omega arith))
     -- returns-2
-    (λ c. span-none _ _ _ _ _ _ _ (omega arith))
-    -- mul-stage
+    (λ c. span-none _ _ _ _ _ _ (omega arith))
+    -- mul-slot
     (λ c. search needs)
-    -- array-copy-out-stage
+    -- element-copy-out-slot
     (λ c. search needs)
     -- next-place-requires
     (λ c κs. search needs)
@@ -151,9 +151,9 @@ span-met t =
     let after-if2 = after-next-place .before .before in
     let after-if1 = after-if2 .before in
     let start = after-if1 .before .before .before .before in
-    let a = after-step .step .last .1 .1 .1 .1 .1 .1 .1 in
-    let b = after-span .span .last .1 .1 .1 .1 .1 .1 .1 in
-    span-lent _ _ _ _ _ _ _ _ _ _ _ _ _ (now (start .args .store)) (now (start .args .positions)) (now (start .args .floats)) (holds (a .0) (a .1 .0) (a .1 .1 .0)) (holds (b .0) (b .1 .0) (b .1 .1 .0))
+    let a = after-step .step .last .1 .1 .1 .1 .1 .1 in
+    let b = after-span .span .last .1 .1 .1 .1 .1 .1 in
+    span-lent _ _ _ _ _ _ _ _ _ _ _ _ (now (start .args .store)) (now (start .args .positions)) (now (start .args .floats)) (holds (a .0) (a .1 .0) (a .1 .1 .0)) (holds (b .0) (b .1 .0) (b .1 .1 .0))
     (after-next-place .next-place .ensures .0) (omega (arith, after-if2 .if2 .left)) (further t after-next-place) (after-next-place .next-place .ensures .1) (after-if1 .if1 .left)
     (after-lesser .lesser .ensures ∙ ap (λ m. min m (length (now (start .args .store)))) (after-size-between .size-between .ensures)) (after-lesser2 .lesser2 .ensures) (after-lesser3 .lesser3 .ensures)
     (after-store .store .given .0) (after-positions .positions .given .0) (after-floats .floats .given .0) (after-step .step .ensures) (after-span .span .ensures))

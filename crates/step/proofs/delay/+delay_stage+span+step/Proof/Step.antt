@@ -3,18 +3,19 @@ use Prim.Native.Nat.{ℕ}
 use mir.Syntax.{w32}
 use mir.ValLaws.{toZ-ofZ}
 use borrow.Author.Needs.{needs}
-use Rattle.step.proofs.Levels.{volume-is, panning-is, distortion-is, filter-is, eq-is, reverb-is, delay-is}
-use Rattle.step.proofs.Steps.{step-by, remembering-met}
+use Rattle.step.specs.Step.{stageStep}
+use Rattle.step.proofs.Steps.{step-by}
 use Rattle.step.proofs.delay.step.Reads as step
 use Rattle.step.proofs.delay.+delay_stage+span+step.Lts-step as step-lts
 use Rattle.step.proofs.delay.+delay_stage+span+step.Proof.Calls.{step-at, step-calls}
 
 pub step-met : {M : Type 1} (t : ℕ) → step-lts.Closed (step-calls t) (step-at t) step.Post M
+unfolding stageStep
 step-met t =
     step-lts.spec (step-calls t) (step-at t) step.Post
-    -- mul-stage
+    -- mul-slot
     (λ c. search needs)
-    -- array-copy-out-stage
+    -- element-copy-out-slot
     (λ c. search needs)
     -- enum-known-stage
     (λ c. search needs)
@@ -55,15 +56,15 @@ step-met t =
     -- returns
     (λ c.
     let after-known-told = c .before in
-    let after-stage2 = after-known-told .before in
-    step-by _ _ _ _ _ _ _ _ _ (after-stage2 .stage2 .given .1) (λ n g. rw (volume-is, c .process .ensures, toZ-ofZ w32 (after-stage2 .stage2 .given .0 .0) record { sfits = after-known-told .known-told .given .0 .1 })))
+    let after-stage = after-known-told .before in
+    step-by _ _ _ _ _ _ _ _ (after-stage .stage .given .1) (λ n g. rw (c .process .ensures, toZ-ofZ w32 (after-stage .stage .given .0 .0) record { sfits = after-known-told .known-told .given .0 .1 })))
     -- returns-2
-    (λ c. let after-stage3 = c .before .before in step-by _ _ _ _ _ _ _ _ _ (after-stage3 .stage3 .given .1) (λ n g. rw (panning-is, c .process2 .ensures)))
+    (λ c. let after-stage2 = c .before .before in step-by _ _ _ _ _ _ _ _ (after-stage2 .stage2 .given .1) (λ n g. rw (c .process2 .ensures)))
     -- returns-3
     (λ c.
     let after-known-told3 = c .before in
-    let after-stage4 = after-known-told3 .before in
-    step-by _ _ _ _ _ _ _ _ _ (after-stage4 .stage4 .given .1) (λ n g. rw (distortion-is, c .process3 .ensures, toZ-ofZ w32 (after-stage4 .stage4 .given .0 .1 .0) record { sfits = after-known-told3 .known-told3 .given .1 .0 .1 })))
+    let after-stage3 = after-known-told3 .before in
+    step-by _ _ _ _ _ _ _ _ (after-stage3 .stage3 .given .1) (λ n g. rw (c .process3 .ensures, toZ-ofZ w32 (after-stage3 .stage3 .given .0 .1 .0) record { sfits = after-known-told3 .known-told3 .given .1 .0 .1 })))
     -- same-length
     (λ c. search needs)
     -- returns-4
@@ -71,8 +72,8 @@ step-met t =
     let after-keep = c .before .before in
     let after-process4 = after-keep .before .before in
     let after-recall = after-process4 .before in
-    let after-stage5 = after-recall .before .before .before in
-    step-by _ _ _ _ _ _ _ _ _ (after-stage5 .stage5 .given .1) (λ n g. rw filter-is (remembering-met _ _ _ _ _ _ _ _ _ (after-recall .recall .ensures) (after-process4 .process4 .ensures) (after-keep .keep .ensures .0) (after-keep .keep .ensures .1))))
+    let after-stage4 = after-recall .before .before .before in
+    step-by _ _ _ _ _ _ _ _ (after-stage4 .stage4 .given .1) (λ n g. rw (after-keep .keep .ensures .0, after-keep .keep .ensures .1, after-process4 .process4 .ensures, after-recall .recall .ensures)))
     -- same-length-2
     (λ c. search needs)
     -- returns-5
@@ -81,8 +82,8 @@ step-met t =
     let after-process5 = after-keep2 .before .before in
     let after-recall2 = after-process5 .before in
     let after-known-told5 = after-recall2 .before .before in
-    let after-stage6 = after-known-told5 .before in
-    step-by _ _ _ _ _ _ _ _ _ (after-stage6 .stage6 .given .1) (λ n g. rw (eq-is, ← toZ-ofZ w32 (after-stage6 .stage6 .given .0 .1 .1 .0) record { sfits = after-known-told5 .known-told5 .given .1 .1 .0 .1 }) (remembering-met _ _ _ _ _ _ _ _ _ (after-recall2 .recall2 .ensures) (after-process5 .process5 .ensures) (after-keep2 .keep2 .ensures .0) (after-keep2 .keep2 .ensures .1))))
+    let after-stage5 = after-known-told5 .before in
+    step-by _ _ _ _ _ _ _ _ (after-stage5 .stage5 .given .1) (λ n g. rw (after-keep2 .keep2 .ensures .0, after-keep2 .keep2 .ensures .1, after-process5 .process5 .ensures, after-recall2 .recall2 .ensures, toZ-ofZ w32 (after-stage5 .stage5 .given .0 .1 .1 .0) record { sfits = after-known-told5 .known-told5 .given .1 .1 .0 .1 })))
     -- same-length-3
     (λ c. search needs)
     -- same-length-4
@@ -92,8 +93,8 @@ step-met t =
     -- returns-6
     (λ c.
     let after-process6 = c .before .before .before .before .before .before in
-    let after-stage7 = after-process6 .before .before .before .before .before in
-    step-by _ _ _ _ _ _ _ _ _ (after-stage7 .stage7 .given .1) (λ n g. rw reverb-is (after-process6 .process6 .ensures)))
+    let after-stage6 = after-process6 .before .before .before .before .before in
+    step-by _ _ _ _ _ _ _ _ (after-stage6 .stage6 .given .1) (λ n g. rw (after-process6 .process6 .ensures)))
     -- same-length-6
     (λ c. search needs)
     -- same-length-7
@@ -104,5 +105,5 @@ step-met t =
     (λ c.
     let after-delay-stage = c .before .before .before .before .before .before in
     let after-known-told7 = after-delay-stage .before .before .before .before in
-    let after-stage8 = after-known-told7 .before in
-    step-by _ _ _ _ _ _ _ _ _ (after-stage8 .stage8 .given .1) (λ n g. rw (delay-is, ← toZ-ofZ w32 (after-stage8 .stage8 .given .0 .1 .0) record { sfits = after-known-told7 .known-told7 .given .1 .0 .1 }) (after-delay-stage .delay-stage .ensures n g)))
+    let after-stage7 = after-known-told7 .before in
+    step-by _ _ _ _ _ _ _ _ (after-stage7 .stage7 .given .1) (λ n g. rw (← toZ-ofZ w32 (after-stage7 .stage7 .given .0 .1 .0) record { sfits = after-known-told7 .known-told7 .given .1 .0 .1 }) (after-delay-stage .delay-stage .ensures n g)))
