@@ -24,7 +24,7 @@ use Rattle.stage.specs.declared.kind.Stage.{Stage}
 use Rattle.stage.specs.declared.kind.Stage.the-variants.{VolumeControl, PanningControl, Distortion, Filter, EqFilter, Reverb, Delay}
 use Rattle.stage.specs.declared.setup.Setup.{Setup}
 use Rattle.stage.specs.Holding.{holdingOf}
-use Rattle.stage.specs.Setup.{stageAt, nextPlace}
+use Rattle.stage.specs.Setup.{stageAt, usedOf, nextPlace}
 use Rattle.stage.specs.Lines.{lengthsOf, linesOf}
 use Rattle.stage.proofs.Next.{next-le, next-more}
 use Rattle.stage.proofs.FewLines.{few-lines}
@@ -159,12 +159,12 @@ module _ (setup : Setup) where
 
   -- ---- the same of all positions, of which a step is lent those of the places from i up to e
 
-  pub good-part : (i e : ℕ) (ps : List ℕ) → e ≤ setup .count → Good setup 0 (setup .count) ps → Good setup i e (part (placePositions * i) (placePositions * (e - i)) ps)
-  good-part i e ps h g = let z : i - 0 ≡ i = omega arith in good-front i e (setup .count) (drop (placePositions * i) ps) h (rw z at (good-back 0 i (setup .count) ps (omega arith) g))
+  pub good-part : (i e : ℕ) (ps : List ℕ) → e ≤ usedOf setup → Good setup 0 (usedOf setup) ps → Good setup i e (part (placePositions * i) (placePositions * (e - i)) ps)
+  good-part i e ps h g = let z : i - 0 ≡ i = omega arith in good-front i e (usedOf setup) (drop (placePositions * i) ps) h (rw z at (good-back 0 i (usedOf setup) ps (omega arith) g))
 
-  pub good-splice : (i e : ℕ) (a ps : List ℕ) → i ≤ e → e ≤ setup .count → placePositions * setup .count ≤ length ps → length a ≡ placePositions * (e - i) → Good setup i e a → Good setup 0 (setup .count) ps → Good setup 0 (setup .count) (splice (placePositions * i) a ps)
+  pub good-splice : (i e : ℕ) (a ps : List ℕ) → i ≤ e → e ≤ usedOf setup → placePositions * usedOf setup ≤ length ps → length a ≡ placePositions * (e - i) → Good setup i e a → Good setup 0 (usedOf setup) ps → Good setup 0 (usedOf setup) (splice (placePositions * i) a ps)
   good-splice i e a ps ie ec n q g g' =
-      let c = setup .count in
+      let c = usedOf setup in
       let z : i - 0 ≡ i = omega arith in
       let w : e - 0 ≡ e = omega arith in
       let x : placePositions * i + length a ≡ placePositions * e = omega arith in

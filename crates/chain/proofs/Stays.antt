@@ -84,6 +84,6 @@ module _ (setup : Setup) (s : State Float Held) (k : ℕ) (v : Ready setup s) (o
       let m = made C (Room setup) (Sized setup) (chain-local setup) F s k v o in
       let own : length (part (placePositions * t) (placePositions * e - placePositions * t) xs) ≡ placePositions * (e - t) = length-part (placePositions * t) (placePositions * e - placePositions * t) xs (omega (arith, v .held .positions)) ∙ n in
       let all : Good setup 0 (usedOf setup) xs = λ a b za ac bn. rw sub-zero (f a b ac bn) in
-      let mine : Good setup t e (part (placePositions * t) (placePositions * e - placePositions * t) xs) = subst (λ (q : ℕ). Good setup t e (part (placePositions * t) q xs)) (sym n) (good-part setup (usedOf setup) t e xs ec all) in
-      let after = good-splice setup (usedOf setup) t e (out C F k s .held .positions) xs te ec (v .held .positions) (m .held .positions ∙ n) (place-stays setup (startsOf setup) t e (ran (frameAt 0 (part (at s k * 2) 2 (s .samples))) (stretch setup t e (s .held))) (le-of-eq (sym own)) mine) all in
+      let mine : Good setup t e (part (placePositions * t) (placePositions * e - placePositions * t) xs) = subst (λ (q : ℕ). Good setup t e (part (placePositions * t) q xs)) (sym n) (good-part setup t e xs ec all) in
+      let after = good-splice setup t e (out C F k s .held .positions) xs te ec (v .held .positions) (m .held .positions ∙ n) (place-stays setup (startsOf setup) t e (ran (frameAt 0 (part (at s k * 2) 2 (s .samples))) (stretch setup t e (s .held))) (le-of-eq (sym own)) mine) all in
       subst (λ (ps : List ℕ). getD ps (placePositions * i + j) 0 < getD (linesOf (setup .rate) (stageAt setup i)) j 0) (sym (ap (λ (h : Held). h .positions) (w .held))) (rw sub-zero at (after i j (omega arith) ic jl))
