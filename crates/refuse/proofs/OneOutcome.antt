@@ -1,11 +1,17 @@
--- Each public function's promise admits one outcome. `refusal` is lent its samples and its order by `&`, which it cannot change, so there too a caller sees the result and nothing else. Assumes nothing.
+-- Each public function's promise admits one outcome. Where something is lent, it is by `&`, which cannot be changed, so there too a caller sees the result and nothing else. Assumes nothing.
 use mathlib.Core.Path.{sym, _∙_}
 use Rattle.float.proofs.Outcome.{Single}
-use Rattle.refuse.proofs.block as block
-use Rattle.refuse.proofs.check as check
+use Rattle.refuse.proofs.entries as entries
+use Rattle.refuse.proofs.call as call
 
-pub check-chain-single : Single check.check_chain.Reads.Post
-check-chain-single κs a r r' s s' p q = p ∙ sym q
+pub number-single : Single entries.number.Reads.Post
+number-single κs a r r' s s' p q = p ∙ sym q
 
-pub refusal-single : Single block.refusal.Reads.Post
-refusal-single κs a r r' s s' p q = p ∙ sym q
+pub may-run-single : Single entries.may_run.Reads.Post
+may-run-single κs a r r' s s' p q = p ∙ sym q
+
+pub check-order-single : Single entries.check_order.Reads.Post
+check-order-single κs a r r' s s' p q = p ∙ sym q
+
+pub check-single : Single call.check.Reads.Post
+check-single κs a r r' s s' p q = rw (p .0 ∙ sym (q .0), p .1 ∙ sym (q .1), p .2 ∙ sym (q .2))
