@@ -1,4 +1,3 @@
-pub mod Shapes
 pub mod Counting
 pub mod Unrun
 pub mod Parts

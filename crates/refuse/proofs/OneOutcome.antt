@@ -1,8 +1,20 @@
--- Each public function's promise admits one outcome. Where something is lent, it is by `&`, which cannot be changed, so there too a caller sees the result and nothing else. Assumes nothing.
+-- Each public function's promise admits one outcome. What a function is lent by `&` it cannot change, so there too a caller sees the result and nothing else. Assumes nothing.
 use mathlib.Core.Path.{sym, _∙_}
 use Rattle.float.proofs.Outcome.{Single}
-use Rattle.refuse.proofs.entries as entries
 use Rattle.refuse.proofs.call as call
+use Rattle.refuse.proofs.chain as chain
+use Rattle.refuse.proofs.entries as entries
+use Rattle.refuse.proofs.samples as samples
+use Rattle.refuse.proofs.state as state
+
+pub check-chain-single : Single chain.check_chain.Reads.Post
+check-chain-single κs a r r' s s' p q = p ∙ sym q
+
+pub check-state-single : Single state.check_state.Reads.Post
+check-state-single κs a r r' s s' p q = p ∙ sym q
+
+pub check-samples-single : Single samples.check_samples.Reads.Post
+check-samples-single κs a r r' s s' p q = p ∙ sym q
 
 pub number-single : Single entries.number.Reads.Post
 number-single κs a r r' s s' p q = p ∙ sym q

@@ -19,6 +19,7 @@ fn first_lost(setup: Setup, positions: &[usize; ALL_POSITIONS]) -> usize
     ensures { λ r. ⌜ r ≡ firstOf (λ i. decide (lostAt setup (now (positions .entry)) i)) (usedOf setup) ⌝ }
 {
     let rate = setup.rate;
+    let all = &positions[..];
     let end = used(setup.count);
     let mut i = 0;
     while i < end {
@@ -26,7 +27,7 @@ fn first_lost(setup: Setup, positions: &[usize; ALL_POSITIONS]) -> usize
         let stage = slot.stage;
         let from = POSITIONS * i;
         let to = from + POSITIONS;
-        if is_lost(rate, stage, &positions[from..to]) {
+        if is_lost(rate, stage, &all[from..to]) {
             return i;
         }
         i += 1;

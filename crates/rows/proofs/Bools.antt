@@ -1,24 +1,11 @@
--- Laws of tests: two that ask the same, in other words, are one; and what a test of "and" or "or" says. Assumes nothing.
-use mathlib.Core.Path.{_≡_, refl, sym, _∙_}
+-- Laws of tests: one of numbers that have other names, and what a test of "and" or "or" says. Assumes nothing.
+use mathlib.Core.Path.{_≡_, refl}
 use mathlib.Core.Logic.{_⊎_, inl, inr}
 use mathlib.Core.Bool.{Bool, true, false, _&&_, _||_, true≢false, false≢true}
 use Prim.Native.Nat.{ℕ, _≤_, _<_}
-use native.Mathlib.Decide.{decLe}
 use native.Mathlib.Omega.{arith}
-use lib.Dec.{ltb, leb}
-use borrow.Author.Tests.{lt-ltb, le-ltb, le-leb, lt-leb}
-
--- a comparison by differences is one by sums, where each follows from the other
-pub leb-same : (a b a' b' : ℕ) → (a ≤ b → a' ≤ b') → (a' ≤ b' → a ≤ b) → leb a b ≡ leb a' b'
-leb-same a b a' b' f g = go (decLe a b)
-  where
-    go : Dec (a ≤ b) → leb a b ≡ leb a' b'
-    go (yes h) = le-leb a b h ∙ sym (le-leb a' b' (f h))
-    go (no h) = lt-leb a b (omega arith) ∙ sym (lt-leb a' b' (turn (decLe a' b')))
-      where
-        turn : Dec (a' ≤ b') → b' < a'
-        turn (yes k) = absurd (h (g k))
-        turn (no k) = omega arith
+use lib.Dec.{ltb}
+use borrow.Author.Tests.{lt-ltb, le-ltb}
 
 -- a test of numbers that are the definition's, by other names
 module _ {r x n m : ℕ} (e : r ≡ x) (q : n ≡ m) where

@@ -7,7 +7,7 @@ use borrow.Author.Tests.{ltb-true, leb-true, eqb-true, eqb-false, not-true, lt-l
 use Rattle.rows.specs.First.{firstOf}
 use Rattle.rows.specs.Condition.{Condition, less, most, same, differ, fails, either, both, among, Holds, decide}
 use Rattle.rows.specs.Rows.{When, given, first, AppliesAt, Never, applies, placeIn}
-use Rattle.rows.proofs.Bools.{or-so, or-is, and-so, and-is, not-so}
+use Rattle.rows.proofs.Bools.{true-or-false, or-so, or-is, and-so, and-is, not-so}
 use Rattle.rows.proofs.Firsts.{first-is, first-clear, some-hit, some-none, some-less, some-so, none-clear}
 
 -- ---- a condition
@@ -36,6 +36,14 @@ so-not c h q = false≢true (sym h ∙ is c q)
 
 pub is-not : (c : Condition) → (Holds c → ⊥) → decide c ≡ false
 is-not c h = not-so (decide c) (λ q. h (so c q))
+
+-- two conditions that say the same are decided alike
+pub alike : (c d : Condition) → (Holds c → Holds d) → (Holds d → Holds c) → decide c ≡ decide d
+alike c d f g =
+    ⊎-elim
+    (λ h. h ∙ sym (is d (f (so c h))))
+    (λ h. h ∙ sym (is-not d (λ k. so-not c h (g k))))
+    (true-or-false (decide c))
 
 -- ---- when a row applies
 pub applies-so : (w : When) → applies w ≡ true → AppliesAt w (placeIn w)

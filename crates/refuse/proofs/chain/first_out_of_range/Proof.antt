@@ -1,28 +1,33 @@
--- `check::first_out_of_range` meets its contract: it has looked at the numbers below i. The measure is what is left to look at. Assumes nothing.
+-- `chain::first_out_of_range` meets its contract: it has looked at the numbers below i. The measure is what is left to look at. Assumes nothing.
 use mathlib.Core.Path.{ap, sym, _∙_}
 use mathlib.Core.Bool.{not}
 use Prim.Native.Nat.{_-_}
 use native.Mathlib.Omega.{arith}
 use borrow.Author.Needs.{needs}
-use Rattle.stage.proofs.Firsts.{Looked, look-start, look-on, look-found, look-over}
+use Rattle.rows.specs.Condition.{decide}
+use Rattle.rows.proofs.Firsts.{Looked, look-start, look-on, look-found, look-over}
+use Rattle.stage.specs.Setup.{usedOf}
 use Rattle.refuse.specs.Refusals.{outOfRange}
-use Rattle.refuse.proofs.check.first_out_of_range.Statement.{statement}
-use Rattle.refuse.proofs.check.first_out_of_range.Tie as tie
+use Rattle.refuse.proofs.chain.first_out_of_range.Statement.{statement}
+use Rattle.refuse.proofs.chain.first_out_of_range.Tie as tie
 
 abbrev Inv-loop : tie.InvT-loop
-Inv-loop count stages i₀ i = Looked (outOfRange stages) count i
+Inv-loop setup end i₀ i = Looked (λ i. decide (outOfRange setup i)) (usedOf setup) i
 
 abbrev μ-loop : tie.MeasureT-loop
-μ-loop count stages i₀ i = count - i
+μ-loop setup end i₀ i = end - i
+
+used-requires : tie.Need-used-requires Inv-loop μ-loop
+used-requires c κs = search needs
 
 loop-holds : tie.Need-loop-holds Inv-loop μ-loop
 loop-holds c = look-start
 
-mul-stage : tie.Need-mul-stage Inv-loop μ-loop
-mul-stage c = search needs
+mul-slot : tie.Need-mul-slot Inv-loop μ-loop
+mul-slot c = search needs
 
-array-copy-out-stage : tie.Need-array-copy-out-stage Inv-loop μ-loop
-array-copy-out-stage c = search needs
+element-copy-out-slot : tie.Need-element-copy-out-slot Inv-loop μ-loop
+element-copy-out-slot c = search needs
 
 in-range-requires : tie.Need-in-range-requires Inv-loop μ-loop
 in-range-requires c κs = search needs
@@ -48,9 +53,10 @@ first-out-of-range-spec =
     (tie.spec
     Inv-loop
     μ-loop
+    used-requires
     loop-holds
-    mul-stage
-    array-copy-out-stage
+    mul-slot
+    element-copy-out-slot
     in-range-requires
     returns
     add-i

@@ -1,16 +1,17 @@
--- `block::first_bad` meets its contract: below `from` no sample counts as bad, and it has looked at those below i. The measure is what is left to look at. Assumes nothing.
+-- `samples::first_bad` meets its contract: below `from` no sample counts as bad, and it has looked at those below i. The measure is what is left to look at. Assumes nothing.
 use Prim.Native.Nat.{_-_, _≤_}
 use native.Mathlib.Omega.{arith}
 use lib.ListN.{length}
 use borrow.Author.Needs.{needs}
 use borrow.Author.Tests.{le-leb, lt-leb}
-use Rattle.stage.proofs.Firsts.{Looked, look-on, look-found, look-over}
+use Rattle.rows.specs.Condition.{decide}
+use Rattle.rows.proofs.Firsts.{Looked, look-on, look-found, look-over}
 use Rattle.refuse.specs.Refusals.{badSample}
-use Rattle.refuse.proofs.block.first_bad.Statement.{statement}
-use Rattle.refuse.proofs.block.first_bad.Tie as tie
+use Rattle.refuse.proofs.samples.first_bad.Statement.{statement}
+use Rattle.refuse.proofs.samples.first_bad.Tie as tie
 
 abbrev Inv-loop : tie.InvT-loop
-Inv-loop samples from i₀ i = (from ≤ i) × Looked (badSample from samples) (length samples) i
+Inv-loop samples from i₀ i = (from ≤ i) × Looked (λ i. decide (badSample from samples i)) (length samples) i
 
 abbrev μ-loop : tie.MeasureT-loop
 μ-loop samples from i₀ i = length samples - i

@@ -1,21 +1,20 @@
--- `block::unrun` meets its contract. Assumes nothing.
+-- `samples::run_by_first` meets its contract. Assumes nothing.
+use mathlib.Core.Path.{sym}
 use native.Mathlib.Omega.{arith}
+use denote.Ref.{now}
 use borrow.Author.Needs.{needs}
-use borrow.Author.Tests.{eq-eqb, ne-eqb}
-use Rattle.refuse.proofs.block.unrun.Statement.{statement}
-use Rattle.refuse.proofs.block.unrun.Tie as tie
+use Rattle.refuse.proofs.Unrun.{unrun-none, unrun-some}
+use Rattle.refuse.proofs.samples.run_by_first.Statement.{statement}
+use Rattle.refuse.proofs.samples.run_by_first.Tie as tie
 
 returns : tie.Need-returns
-returns c = rw (eq-eqb _ _ (c .if1 .taken))
+returns c = let a = c .before .args in sym (unrun-none (a .tops) (now (a .progress)) (c .if1 .taken))
 
-array-read-result : tie.Need-array-read-result
-array-read-result c = search needs
-
-mul-result : tie.Need-mul-result
-mul-result c = omega (arith, c .before .pre (omega arith))
+element-copy-out-result : tie.Need-element-copy-out-result
+element-copy-out-result c = search needs
 
 returns-2 : tie.Need-returns-2
-returns-2 c = rw (ne-eqb _ _ (c .if1 .left))
+returns-2 c = let a = c .before .before .args in sym (unrun-some (a .tops) (now (a .progress)) (omega arith))
 
-pub unrun-spec : {M : Type 1} → statement M
-unrun-spec = tie.close (tie.spec returns array-read-result mul-result returns-2)
+pub run-by-first-spec : {M : Type 1} → statement M
+run-by-first-spec = tie.close (tie.spec returns element-copy-out-result returns-2)

@@ -3,16 +3,21 @@ use mathlib.Core.Path.{sym, _∙_}
 use Prim.Native.Nat.{_-_}
 use native.Mathlib.Omega.{arith}
 use borrow.Author.Needs.{needs}
-use Rattle.stage.proofs.Firsts.{Looked, look-start, look-on, look-found, look-over}
-use Rattle.refuse.specs.Shape.{faultyOf}
+use Rattle.rows.specs.Condition.{decide}
+use Rattle.rows.proofs.Firsts.{Looked, look-start, look-on, look-found, look-over}
+use Rattle.stage.specs.Setup.{usedOf}
+use Rattle.refuse.specs.Shape.{faulty}
 use Rattle.refuse.proofs.shape.first_faulty.Statement.{statement}
 use Rattle.refuse.proofs.shape.first_faulty.Tie as tie
 
 abbrev Inv-loop : tie.InvT-loop
-Inv-loop stages count i₀ i = Looked (faultyOf stages count) count i
+Inv-loop setup end i₀ i = Looked (λ i. decide (faulty setup i)) (usedOf setup) i
 
 abbrev μ-loop : tie.MeasureT-loop
-μ-loop stages count i₀ i = count - i
+μ-loop setup end i₀ i = end - i
+
+used-requires : tie.Need-used-requires Inv-loop μ-loop
+used-requires c κs = search needs
 
 loop-holds : tie.Need-loop-holds Inv-loop μ-loop
 loop-holds c = look-start
@@ -41,6 +46,7 @@ first-faulty-spec =
     (tie.spec
     Inv-loop
     μ-loop
+    used-requires
     loop-holds
     is-faulty-requires
     returns

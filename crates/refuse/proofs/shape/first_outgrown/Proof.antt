@@ -3,16 +3,17 @@ use mathlib.Core.Path.{sym, _∙_}
 use Prim.Native.Nat.{_-_}
 use native.Mathlib.Omega.{arith}
 use borrow.Author.Needs.{needs}
-use Rattle.stage.proofs.Firsts.{Looked, look-start, look-on, look-found, look-over}
+use Rattle.rows.specs.Condition.{decide}
+use Rattle.rows.proofs.Firsts.{Looked, look-start, look-on, look-found, look-over}
 use Rattle.refuse.specs.Shape.{outgrows}
 use Rattle.refuse.proofs.shape.first_outgrown.Statement.{statement}
 use Rattle.refuse.proofs.shape.first_outgrown.Tie as tie
 
 abbrev Inv-loop : tie.InvT-loop
-Inv-loop stages i j₀ j = Looked (outgrows stages i) i j
+Inv-loop setup i j₀ j = Looked (λ j. decide (outgrows setup i j)) i j
 
 abbrev μ-loop : tie.MeasureT-loop
-μ-loop stages i j₀ j = i - j
+μ-loop setup i j₀ j = i - j
 
 loop-holds : tie.Need-loop-holds Inv-loop μ-loop
 loop-holds c = look-start

@@ -1,23 +1,23 @@
--- `shape::owns` meets its contract: a comparison by differences is one by sums. Assumes nothing.
+-- `shape::is_owner` meets its contract: a comparison by differences is one by sums. Assumes nothing.
+use native.Mathlib.Omega.{arith}
+use Prim.Native.Nat.{_-_}
 use borrow.Author.Needs.{needs}
-use Rattle.refuse.proofs.Shapes.{owns-by}
-use Rattle.refuse.proofs.shape.owns.Statement.{statement}
-use Rattle.refuse.proofs.shape.owns.Tie as tie
-
-mul-stage : tie.Need-mul-stage
-mul-stage c = search needs
-
-array-copy-out-stage : tie.Need-array-copy-out-stage
-array-copy-out-stage c = search needs
+use Rattle.rows.specs.Condition.{most}
+use Rattle.rows.proofs.Decided.{alike}
+use Rattle.refuse.specs.Shape.{owns}
+use Rattle.refuse.proofs.shape.is_owner.Statement.{statement}
+use Rattle.refuse.proofs.shape.is_owner.Tie as tie
 
 sub-result : tie.Need-sub-result
 sub-result c = search needs
 
-owned-requires : tie.Need-owned-requires
-owned-requires c κs = search needs
+owned-at-requires : tie.Need-owned-at-requires
+owned-at-requires c κs = search needs
 
 returns : tie.Need-returns
-returns c = let start = c .before .before in owns-by (start .args .t1) (start .args .j) (start .args .i) (start .pre .0) (c .owned .result) (c .owned .ensures)
+returns c =
+    let a = c .before .args in
+    alike (most (a .i - a .j) (c .owned-at .result)) (owns (a .setup) (a .j) (a .i)) (λ h. omega arith) (λ h. omega arith)
 
-pub owns-spec : {M : Type 1} → statement M
-owns-spec = tie.close (tie.spec mul-stage array-copy-out-stage sub-result owned-requires returns)
+pub is-owner-spec : {M : Type 1} → statement M
+is-owner-spec = tie.close (tie.spec sub-result owned-at-requires returns)

@@ -1,15 +1,16 @@
--- `block::first_ahead` meets its contract: it has looked at the numbers below k. The measure is what is left to look at. Assumes nothing.
+-- `state::first_ahead` meets its contract: it has looked at the numbers below k. The measure is what is left to look at. Assumes nothing.
 use mathlib.Core.Path.{sym, _∙_}
 use Prim.Native.Nat.{_-_}
 use native.Mathlib.Omega.{arith}
 use borrow.Author.Needs.{needs}
-use Rattle.stage.proofs.Firsts.{Looked, look-start, look-on, look-found, look-over}
+use Rattle.rows.specs.Condition.{decide}
+use Rattle.rows.proofs.Firsts.{Looked, look-start, look-on, look-found, look-over}
 use Rattle.refuse.specs.Refusals.{aheadAt}
-use Rattle.refuse.proofs.block.first_ahead.Statement.{statement}
-use Rattle.refuse.proofs.block.first_ahead.Tie as tie
+use Rattle.refuse.proofs.state.first_ahead.Statement.{statement}
+use Rattle.refuse.proofs.state.first_ahead.Tie as tie
 
 abbrev Inv-loop : tie.InvT-loop
-Inv-loop tops frames progress k₀ k = Looked (aheadAt frames progress) tops k
+Inv-loop tops frames progress k₀ k = Looked (λ k. decide (aheadAt frames progress k)) tops k
 
 abbrev μ-loop : tie.MeasureT-loop
 μ-loop tops frames progress k₀ k = tops - k

@@ -1,43 +1,47 @@
--- `block::first_lost` meets its contract: it has looked at the stages below i. The measure is what is left to look at. Assumes nothing.
-use mathlib.Core.Path.{_≡_, ap, sym, _∙_}
-use mathlib.Core.List.{List}
-use Prim.Native.Nat.{ℕ, _+_, _*_, _-_}
+-- `state::first_lost` meets its contract: it has looked at the stages below i. The measure is what is left to look at. Assumes nothing.
+use mathlib.Core.Path.{_≡_, sym, _∙_}
+use Prim.Native.Nat.{_+_, _*_, _-_}
 use native.Mathlib.Omega.{arith}
-use lib.ListN.{take, drop}
 use denote.Ref.{now}
 use borrow.Author.Needs.{needs}
-use Rattle.order.specs.Stretch.{part}
-use Rattle.stage.specs.Kind.{stageAt}
-use Rattle.stage.specs.Lines.{lostOf}
-use Rattle.stage.proofs.Firsts.{Looked, look-start, look-on, look-found, look-over}
+use Rattle.rows.specs.Condition.{decide}
+use Rattle.rows.proofs.Firsts.{Looked, look-start, look-on, look-found, look-over}
+use Rattle.memories.specs.Sizes.{placePositions}
+use Rattle.stage.specs.Setup.{usedOf}
 use Rattle.refuse.specs.Refusals.{lostAt}
-use Rattle.refuse.proofs.block.first_lost.Statement.{statement}
-use Rattle.refuse.proofs.block.first_lost.Tie as tie
+use Rattle.refuse.proofs.state.first_lost.Statement.{statement}
+use Rattle.refuse.proofs.state.first_lost.Tie as tie
 
 abbrev Inv-loop : tie.InvT-loop
-Inv-loop rate count positions stages i₀ i = Looked (lostAt rate stages positions) count i
+Inv-loop positions setup rate all end i₀ i = Looked (λ i. decide (lostAt setup positions i)) (usedOf setup) i
 
 abbrev μ-loop : tie.MeasureT-loop
-μ-loop rate count positions stages i₀ i = count - i
+μ-loop positions setup rate all end i₀ i = end - i
 
--- the positions of the place i, as they are cut out
-cut : (i : ℕ) (positions : List ℕ) → part (24 * i) 24 positions ≡ take (24 * i + 24 - 24 * i) (drop (24 * i) positions)
-cut i positions = let z : 24 ≡ 24 * i + 24 - 24 * i = omega arith in ap (λ (n : ℕ). take n (drop (24 * i) positions)) z
+-- as the positions of a place are cut out, so many are those of a place
+lost : (c : tie.After-is-lost Inv-loop μ-loop) → let a = c .before .before .before .before .before .before .before .args in c .is-lost .result ≡ decide (lostAt (a .t1) (now (a .positions)) (c .before .before .before .before .loop .i))
+lost c =
+    let i = c .before .before .before .before .loop .i in
+    let size : placePositions * i + placePositions - placePositions * i ≡ placePositions = omega arith in
+    rw size at (c .is-lost .ensures)
+
+used-requires : tie.Need-used-requires Inv-loop μ-loop
+used-requires c κs = search needs
 
 loop-holds : tie.Need-loop-holds Inv-loop μ-loop
 loop-holds c = look-start
 
-mul-stage : tie.Need-mul-stage Inv-loop μ-loop
-mul-stage c = search needs
+mul-slot : tie.Need-mul-slot Inv-loop μ-loop
+mul-slot c = search needs
 
-array-copy-out-stage : tie.Need-array-copy-out-stage Inv-loop μ-loop
-array-copy-out-stage c = search needs
+element-copy-out-slot : tie.Need-element-copy-out-slot Inv-loop μ-loop
+element-copy-out-slot c = search needs
 
-mul-first : tie.Need-mul-first Inv-loop μ-loop
-mul-first c = search needs
+mul-from : tie.Need-mul-from Inv-loop μ-loop
+mul-from c = search needs
 
-add-end : tie.Need-add-end Inv-loop μ-loop
-add-end c = search needs
+add-to : tie.Need-add-to Inv-loop μ-loop
+add-to c = search needs
 
 mul-is-lost : tie.Need-mul-is-lost Inv-loop μ-loop
 mul-is-lost c = search needs
@@ -55,10 +59,7 @@ is-lost-requires : tie.Need-is-lost-requires Inv-loop μ-loop
 is-lost-requires c κs = search needs
 
 returns : tie.Need-returns Inv-loop μ-loop
-returns c =
-    let a = c .before .before .before .before .before .before .before .args in
-    let at = c .before .before .before .before .before .loop in
-    look-found (at .inv) (omega arith) (ap (lostOf (a .rate) (stageAt (a .t2) (at .i))) (cut (at .i) (now (a .positions))) ∙ sym (c .before .is-lost .ensures) ∙ c .if1 .taken)
+returns c = look-found (c .before .before .before .before .before .loop .inv) (omega arith) (sym (lost (c .before)) ∙ c .if1 .taken)
 
 add-i : tie.Need-add-i Inv-loop μ-loop
 add-i c = search needs
@@ -67,10 +68,7 @@ loop-less : tie.Need-loop-less Inv-loop μ-loop
 loop-less c = search needs
 
 loop-again : tie.Need-loop-again Inv-loop μ-loop
-loop-again c =
-    let a = c .before .before .before .before .before .before .before .args in
-    let at = c .before .before .before .before .before .loop in
-    look-on (at .inv) (omega arith) (ap (lostOf (a .rate) (stageAt (a .t2) (at .i))) (cut (at .i) (now (a .positions))) ∙ sym (c .before .is-lost .ensures) ∙ c .if1 .left)
+loop-again c = look-on (c .before .before .before .before .before .loop .inv) (omega arith) (sym (lost (c .before)) ∙ c .if1 .left)
 
 returns-2 : tie.Need-returns-2 Inv-loop μ-loop
 returns-2 c = look-over (c .before .loop .inv) (omega arith)
@@ -81,11 +79,12 @@ first-lost-spec =
     (tie.spec
     Inv-loop
     μ-loop
+    used-requires
     loop-holds
-    mul-stage
-    array-copy-out-stage
-    mul-first
-    add-end
+    mul-slot
+    element-copy-out-slot
+    mul-from
+    add-to
     mul-is-lost
     sub-is-lost
     part-is-lost-start
