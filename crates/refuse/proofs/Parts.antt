@@ -1,36 +1,29 @@
--- All eleven rows in two parts: the answer is that of rows 1 to 5 where it is a refusal, and that of rows 6 to 11 where it is not. Assumes nothing.
-use mathlib.Core.Path.{_≡_, refl, sym}
-use mathlib.Core.Bool.{true, false}
+-- A table in parts, each answered by itself. Where a part refuses, its answer is the whole table's; where it accepts, none of its rows applies, and what is left of the table has the answer of the whole. Assumes nothing.
+use mathlib.Core.Path.{_≡_, refl, ap, sym, _∙_}
+use mathlib.Core.Bool.{Bool, true, false, not}
 use mathlib.Core.List.{List}
-use Prim.Native.Nat.{ℕ, _≤_}
-use lib.Ieee.{Float}
-use borrow.Author.Tests.{ltb-false}
-use Rattle.stage.specs.declared.kind.Stage.{Stage}
-use Rattle.stage.specs.Layout.{startOf}
-use Rattle.answer.specs.Answer.{acceptedOf}
-use Rattle.refuse.specs.Refusals.{chainRows, blockRows, chainAnswer, blockAnswer, answerOf}
-use Rattle.refuse.proofs.Rows.{Refusing, NoRow, no-row, first-refused, first-passed}
+use Prim.Native.Nat.{ℕ}
+use native.Mathlib.Omega.{arith}
+use lib.ListN.{take, drop, take-append-drop}
+use borrow.Author.Tests.{eqb-true, eqb-false, not-true, not-false}
+use Rattle.rows.specs.Rows.{Row, NoRow, firstRow}
+use Rattle.rows.proofs.Tables.{Numbered, no-row, first-passed, first-refused}
+use Rattle.rows.proofs.Tested.{Gives}
+use Rattle.answer.specs.declared.Answer.{Answer}
+use Rattle.answer.specs.declared.Answer.the-variants.{Accepted}
+use Rattle.answer.specs.Answer.{numberOf, placeOf, acceptedOf}
 
-module _ (rate : ℕ) (l : List Stage) (c floats : ℕ) where
-  refusing : Refusing (chainRows rate l c floats)
-  refusing = (refl, (refl, (refl, (refl, (refl, tt)))))
+pub part-clear : (xs : List (Row Answer)) {answer : Answer} → answer ≡ firstRow xs Accepted → Numbered numberOf placeOf xs → acceptedOf answer ≡ true → NoRow xs
+part-clear xs {answer} e f h = no-row numberOf placeOf Accepted xs f (ap numberOf (sym e) ∙ eqb-true (numberOf answer) 0 h)
 
-  -- no row of the chain applies
-  pub chain-clear : acceptedOf (chainAnswer rate l c floats) ≡ true → NoRow (chainRows rate l c floats)
-  unfolding chainAnswer
-  chain-clear h = no-row (chainRows rate l c floats) refusing h
+-- the first n of these rows are a part, and its answer is tested
+module _ {rs : List (Row Answer)} {whole : Answer} (g : Gives rs Accepted whole) (n : ℕ) {answer : Answer} (e : answer ≡ firstRow (take n rs) Accepted) {accepts : Bool} (t : accepts ≡ acceptedOf answer) where
+  pub part-hit : not accepts ≡ true → answer ≡ whole
+  part-hit h =
+      let q = first-refused numberOf Accepted refl (take n rs) (drop n rs) (omega (arith, eqb-false (numberOf answer) 0 (sym t ∙ not-true accepts h), ap numberOf e)) in
+      e ∙ sym (rw take-append-drop at q) ∙ g .same
 
-  pub chain-count : acceptedOf (chainAnswer rate l c floats) ≡ true → c ≤ 16
-  chain-count h = ltb-false 16 c (chain-clear h .1 .0)
-
-  pub chain-room : acceptedOf (chainAnswer rate l c floats) ≡ true → startOf rate l c ≤ floats
-  chain-room h = ltb-false floats (startOf rate l c) (chain-clear h .1 .1 .1 .1 .0)
-
-  module _ (samples : List Float) (positions progress order : List ℕ) where
-    pub refused-part : acceptedOf (chainAnswer rate l c floats) ≡ false → chainAnswer rate l c floats ≡ answerOf rate l c floats samples positions progress order
-    unfolding answerOf chainAnswer
-    refused-part h = sym (first-refused (blockRows rate l c samples positions progress order) (chainRows rate l c floats) h)
-
-    pub passed-part : acceptedOf (chainAnswer rate l c floats) ≡ true → blockAnswer rate l c samples positions progress order ≡ answerOf rate l c floats samples positions progress order
-    unfolding answerOf blockAnswer
-    passed-part h = sym (first-passed (blockRows rate l c samples positions progress order) (chainRows rate l c floats) (chain-clear h))
+  pub part-pass : Numbered numberOf placeOf (take n rs) → not accepts ≡ false → Gives (drop n rs) Accepted whole
+  part-pass f h =
+      let q = first-passed Accepted (take n rs) (drop n rs) (part-clear (take n rs) e f (sym t ∙ not-false accepts h)) in
+      record { same = sym (rw take-append-drop at q) ∙ g .same }

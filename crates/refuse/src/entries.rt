@@ -54,10 +54,10 @@ pub fn may_run(tops: usize, frames: usize, progress: &[usize], k: usize) -> Rule
 
 // The place of the first entry that breaks a rule, progress being counted entry by entry. The entries
 // still unread are handed on, from the first of them.
-fn first_stuck(tops: usize, frames: usize, progress: &[usize; PLACES], order: &[usize]) -> usize
-    ensures { λ r. ⌜ r ≡ firstOf (λ i. decide (stuck tops frames (now (progress .entry)) (now (order .entry)) i)) (length (now (order .entry))) ⌝ }
+fn first_stuck(tops: usize, frames: usize, progress: [usize; PLACES], order: &[usize]) -> usize
+    ensures { λ r. ⌜ r ≡ firstOf (λ i. decide (stuck tops frames progress (now (order .entry)) i)) (length (now (order .entry))) ⌝ }
 {
-    let mut counted = *progress;
+    let mut counted = progress;
     let mut unread = order;
     while unread.len() > 0 {
         let k = unread[0];
@@ -81,7 +81,7 @@ pub fn check_order(
 ) -> Answer
     ensures { λ r. ⌜ r ≡ orderAnswer tops frames (now (progress .entry)) (now (order .entry)) ⌝ }
 {
-    let stuck = first_stuck(tops, frames, progress, order);
+    let stuck = first_stuck(tops, frames, *progress, order);
     if stuck < order.len() {
         return Answer::Entry(stuck);
     }

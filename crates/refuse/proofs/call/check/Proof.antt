@@ -1,46 +1,54 @@
--- `block::refusal` meets its contract: the two parts of the table, by the laws of proofs/Parts.antt. Assumes nothing.
-use mathlib.Core.Path.{ap, sym, _∙_}
-use denote.Ref.{now}
+-- `call::check` meets its contract: what is worked out for the table is what the table asks for. Assumes nothing.
+use mathlib.Core.Path.{_≡_, ap, _∙_}
+use native.Mathlib.Omega.{arith}
+use lib.ListN.{getD}
 use borrow.Author.Needs.{needs}
-use Rattle.answer.specs.Answer.{acceptedOf}
-use Rattle.refuse.proofs.Parts.{chain-count, refused-part, passed-part}
-use Rattle.refuse.proofs.block.refusal.Statement.{statement}
-use Rattle.refuse.proofs.block.refusal.Tie as tie
+use Rattle.stage.specs.Layout.{neededOf}
+use Rattle.stage.proofs.Starts.{starts-at}
+use Rattle.tops.specs.declared.Tops.{Tops}
+use Rattle.tops.specs.Tops.{topsOf, topsRecord}
+use Rattle.refuse.specs.Refusals.{answerOf}
+use Rattle.refuse.proofs.call.check.Statement.{statement}
+use Rattle.refuse.proofs.call.check.Tie as tie
 
-check-chain-requires : tie.Need-check-chain-requires
-check-chain-requires c κs = search needs
+starts-of-requires : tie.Need-starts-of-requires
+starts-of-requires c κs = search needs
 
-is-accepted-requires : tie.Need-is-accepted-requires
-is-accepted-requires c κs = search needs
+slice-aggregate-number-at : tie.Need-slice-aggregate-number-at
+slice-aggregate-number-at c = search needs
 
-slice-aggregate-check-block : tie.Need-slice-aggregate-check-block
-slice-aggregate-check-block c = search needs
+used-requires : tie.Need-used-requires
+used-requires c κs = search needs
 
-check-block-requires : tie.Need-check-block-requires
-check-block-requires c κs =
-    let start = c .before .before .before .before .before .before in
-    let called = c .before .before .before .check-chain in
-    (chain-count (start .args .rate) (start .args .stages) (start .args .count) (start .args .floats) (ap acceptedOf (sym (called .ensures)) ∙ sym (c .before .before .is-accepted .ensures) ∙ c .before .if1 .taken), search needs)
+number-at-requires : tie.Need-number-at-requires
+number-at-requires c κs = search needs
+
+tops-of-requires : tie.Need-tops-of-requires
+tops-of-requires c κs = search needs
+
+first-refusal-requires : tie.Need-first-refusal-requires
+first-refusal-requires c κs = search needs
 
 returns : tie.Need-returns
+unfolding answerOf topsRecord
 returns c =
-    let start = c .before .before .before .before .before .before .before in
-    let called = c .before .before .before .before .check-chain in
-    c .check-block .ensures ∙ passed-part (start .args .rate) (start .args .stages) (start .args .count) (start .args .floats) (now (start .args .samples)) (start .args .t6) (start .args .progress) (now (start .args .order)) (ap acceptedOf (sym (called .ensures)) ∙ sym (c .before .before .before .is-accepted .ensures) ∙ c .before .before .if1 .taken)
+    let setup = c .before .before .before .before .before .before .before .before .args .setup in
+    let starts = c .before .before .before .before .before .starts-of in
+    let used = c .before .before .before .used in
+    let number = c .before .before .number-at in
+    let tops = c .before .tops-of in
+    let needed : number .result ≡ neededOf setup = number .ensures ∙ ap (λ i. getD (starts .result) i 0) (used .ensures) ∙ starts-at setup (starts .ensures) _ (omega arith) in
+    let n : tops .result .n ≡ topsOf setup = ap (λ (t : Tops). t .n) (tops .ensures) in
+    (rw (← needed, ← n) (c .first-refusal .ensures), starts .ensures, tops .ensures)
 
-returns-2 : tie.Need-returns-2
-returns-2 c =
-    let start = c .before .before .before .before .before in
-    let called = c .before .before .check-chain in
-    called .ensures ∙ refused-part (start .args .rate) (start .args .stages) (start .args .count) (start .args .floats) (now (start .args .samples)) (start .args .t6) (start .args .progress) (now (start .args .order)) (ap acceptedOf (sym (called .ensures)) ∙ sym (c .before .is-accepted .ensures) ∙ c .if1 .left)
-
-pub refusal-spec : {M : Type 1} → statement M
-refusal-spec =
+pub check-spec : {M : Type 1} → statement M
+check-spec =
     tie.close
     (tie.spec
-    check-chain-requires
-    is-accepted-requires
-    slice-aggregate-check-block
-    check-block-requires
-    returns
-    returns-2)
+    starts-of-requires
+    slice-aggregate-number-at
+    used-requires
+    number-at-requires
+    tops-of-requires
+    first-refusal-requires
+    returns)

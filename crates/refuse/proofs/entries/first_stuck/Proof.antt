@@ -1,66 +1,66 @@
--- `block::first_stuck` meets its contract. The loop's invariant: the first entry that is stuck is, after those already read, the first of the unread ones that is stuck at the progress counted so far. The measure is what is unread. Assumes nothing.
-use mathlib.Core.Path.{_≡_, sym, _∙_}
-use mathlib.Core.Bool.{true}
-use Prim.Native.Nat.{_+_, _-_, _≤_}
+-- `entries::first_stuck` meets its contract. The loop's invariant: so many entries are read and counted, and none of them is stuck (proofs/Counting.antt). The measure is what is unread. Assumes nothing.
+use mathlib.Core.Path.{_≡_, ap, sym, _∙_}
+use mathlib.Core.Logic.{⊎-elim}
 use native.Mathlib.Omega.{arith}
 use lib.ListN.{length, getD, length-set}
+use lib.Seq.{set-out}
 use borrow.Author.Needs.{needs}
-use borrow.Author.Tests.{not-true, not-false}
-use Rattle.refuse.specs.Refusals.{stuckOf, mayRun}
-use Rattle.order.specs.Chain.{OkFrom}
-use Rattle.refuse.proofs.Entries.{may-means, stuck-here, stuck-past, stuck-end}
-use Rattle.refuse.proofs.block.first_stuck.Reads as reads
-use Rattle.refuse.proofs.block.first_stuck.Lts as lts
-use Rattle.refuse.proofs.block.may_run.Reads as may-run-reads
-use Rattle.refuse.proofs.block.first_stuck.Statement.{statement}
-use Rattle.refuse.proofs.block.first_stuck.Tie as tie
+use Rattle.memories.specs.Sizes.{places}
+use Rattle.refuse.specs.Entries.{ruleNumber, ruleOf, tick}
+use Rattle.refuse.proofs.Counting.{kept-room, Counted, count-start, count-left, count-found, count-on, count-over}
+use Rattle.refuse.proofs.entries.first_stuck.Statement.{statement}
+use Rattle.refuse.proofs.entries.first_stuck.Tie as tie
 
 abbrev Inv-loop : tie.InvT-loop
-Inv-loop tops frames order counted₀ unread₀ counted unread =
-    (length unread ≤ length order) × (length counted ≡ 16) × (length order - length unread + stuckOf tops frames counted unread ≡ stuckOf tops frames counted₀ order)
+Inv-loop tops frames order counted₀ unread₀ counted unread = (length counted ≡ places) × Counted tops frames counted₀ order counted unread
 
 abbrev μ-loop : tie.MeasureT-loop
 μ-loop tops frames order counted₀ unread₀ counted unread = length unread
 
 loop-holds : tie.Need-loop-holds Inv-loop μ-loop
-loop-holds c = (omega arith, search needs, omega arith)
-
-may-run-requires : tie.Need-may-run-requires Inv-loop μ-loop
-may-run-requires c κs = (c .before .before .before .before .pre, omega arith)
-
-sub-result : tie.Need-sub-result Inv-loop μ-loop
-sub-result c = omega arith
-
-returns : tie.Need-returns Inv-loop μ-loop
-returns c =
-    let a = c .before .before .before .before .before .before .args in
-    let l = c .before .before .before .before .loop in
-    omega (arith, stuck-here (a .tops) (a .frames) (l .counted) (l .unread .now) (omega arith) (sym (c .before .may-run .ensures) ∙ not-true (c .before .may-run .result) (c .if1 .taken)), l .inv .2)
+loop-holds c = (search needs, count-start _ _ _ _)
 
 shared-slice-read-k : tie.Need-shared-slice-read-k Inv-loop μ-loop
 shared-slice-read-k c = search needs
 
--- an entry that may be run
-abbrev Here : Type 0
-Here = lts.After-shared-slice-known2 (may-run-reads.Asked, may-run-reads.Learnt) reads.Pre reads.Post Inv-loop μ-loop
+slice-aggregate-may-run : tie.Need-slice-aggregate-may-run Inv-loop μ-loop
+slice-aggregate-may-run c = search needs
 
-may : (c : Here) → mayRun (c .before .before .before .before .before .before .before .args .tops) (c .before .before .before .before .before .before .before .args .frames) (c .before .before .before .before .before .loop .counted) (getD (c .before .before .before .before .before .loop .unread .now) 0 0) ≡ true
-may c = sym (c .before .before .may-run .ensures) ∙ not-false (c .before .before .may-run .result) (c .before .if1 .left)
+may-run-requires : tie.Need-may-run-requires Inv-loop μ-loop
+may-run-requires c κs = search needs
 
-ok : (c : Here) → OkFrom (c .before .before .before .before .before .before .before .args .tops) (c .before .before .before .before .before .before .before .args .frames) (c .before .before .before .before .before .loop .counted) (getD (c .before .before .before .before .before .loop .unread .now) 0 0)
-ok c = may-means _ _ _ _ (may c)
+number-requires : tie.Need-number-requires Inv-loop μ-loop
+number-requires c κs = search needs
+
+sub-result : tie.Need-sub-result Inv-loop μ-loop
+sub-result c = omega (arith, count-left _ _ _ _ (c .before .before .before .before .before .before .loop .inv .1))
+
+returns : tie.Need-returns Inv-loop μ-loop
+returns c =
+    let l = c .before .before .before .before .before .before .loop in
+    count-found _ _ _ _ (l .inv .1) (omega arith) (λ e. c .if1 .taken (c .before .number .ensures ∙ ap ruleNumber (c .before .before .may-run .ensures) ∙ e))
+
+-- the entry breaks no rule
+kept :
+    (c : tie.Else1 Inv-loop μ-loop)
+    → let a = c .before .before .before .before .before .before .before .before .args in
+    let l = c .before .before .before .before .before .before .loop in
+    ruleNumber (ruleOf (a .tops) (a .frames) (l .counted) (getD (l .unread .now) 0 0)) ≡ 0
+kept c = sym (c .before .number .ensures ∙ ap ruleNumber (c .before .before .may-run .ensures)) ∙ c .if1 .left
 
 mul-counted : tie.Need-mul-counted Inv-loop μ-loop
-mul-counted c = omega (arith, ok c .inside)
+mul-counted c = search needs
 
 array-read-counted : tie.Need-array-read-counted Inv-loop μ-loop
-array-read-counted c = omega (arith, ok c .inside)
+array-read-counted c = search needs
 
 add-counted : tie.Need-add-counted Inv-loop μ-loop
-add-counted c = omega (arith, ok c .room)
+add-counted c =
+    let z = c .before .before .before .before .before .before .before .before .before in
+    omega (arith, z .fits .frames, kept-room (z .args .tops) (z .args .frames) _ _ (kept (c .before)))
 
 array-write-counted : tie.Need-array-write-counted Inv-loop μ-loop
-array-write-counted c = omega (arith, ok c .inside)
+array-write-counted c = search needs
 
 sub-unread : tie.Need-sub-unread Inv-loop μ-loop
 sub-unread c = search needs
@@ -76,18 +76,13 @@ loop-less c = omega (arith, c .unread .given .2)
 
 loop-again : tie.Need-loop-again Inv-loop μ-loop
 loop-again c =
-    let a = c .before .before .before .before .before .before .before .before .args in
-    let l = c .before .before .before .before .before .before .loop in (
-      omega (arith, c .unread .given .2),
-      simp length-set (l .inv .1),
-      stuck-past (a .tops) (a .frames) (l .counted) (l .unread .now) (omega arith) (may (c .before)) (length (a .order .now)) (l .inv .0) ∙ l .inv .2,
-    )
+    let l = c .before .before .before .before .before .before .before .before .loop in
+    let k = getD (l .unread .now) 0 0 in
+    let counts : c .before .if2 .counted ≡ tick k (l .counted) = ⊎-elim (λ w. w .1) (λ w. w .1 ∙ sym (set-out (l .counted) k _ (omega arith))) (c .before .if2 .came) in
+    (ap length counts ∙ simp length-set (l .inv .0), rw counts (count-on _ _ _ _ (l .inv .1) (omega arith) (kept (c .before .before))))
 
 returns-2 : tie.Need-returns-2 Inv-loop μ-loop
-returns-2 c =
-    let a = c .before .before .before .args in
-    let l = c .before .loop in
-    omega (arith, stuck-end (a .tops) (a .frames) (l .counted) (l .unread .now) (omega arith), l .inv .2)
+returns-2 c = count-over _ _ _ _ (c .before .loop .inv .1) (omega arith)
 
 pub first-stuck-spec : {M : Type 1} → statement M
 first-stuck-spec =
@@ -96,10 +91,12 @@ first-stuck-spec =
     Inv-loop
     μ-loop
     loop-holds
+    shared-slice-read-k
+    slice-aggregate-may-run
     may-run-requires
+    number-requires
     sub-result
     returns
-    shared-slice-read-k
     mul-counted
     array-read-counted
     add-counted
