@@ -10,7 +10,6 @@ use lib.Seq.{getD-append-add}
 use Rattle.float.specs.Finite.{finiteOf}
 use Rattle.line.specs.Held.{Held}
 use Rattle.order.specs.Chain.{State}
-use Rattle.order.specs.Finish.{finishing}
 use Rattle.order.specs.Claims.{begin, Cut}
 use Rattle.order.proofs.Cuts.{cut-parts}
 use Rattle.memories.specs.Sizes.{places}
@@ -19,6 +18,7 @@ use Rattle.tops.specs.Tops.{topsOf}
 use Rattle.tops.proofs.TopStages.{tops-le-16}
 use Rattle.refuse.proofs.Unrun.{unrun-most}
 use Rattle.chain.specs.Chain.{Room, chainOf, framesOf, Orderly, ordered}
+use Rattle.chain.specs.Run.{toEnd}
 use Rattle.chain.specs.Demands.{Arrays, Taken, AllAt, Finishing, CutAt, CutAnywhere, RenderCut, RenderCutAnywhere}
 use Rattle.chain.proofs.ChainLocal.{Sized, chain-local, chain-steady}
 use Rattle.chain.proofs.Accepts.{ClearOn, ready, clear-with, clear-after}
@@ -129,7 +129,7 @@ render-cut-anywhere setup n xs ys h p k ar fresh t =
     let s = begin (xs ++ ys) h p in
     let s₁ = begin xs h zero in
     let none : AllAt setup 0 s₁ = λ j q. getD-replicate places j 0 0 (omega (arith, tops-le-16 setup)) in
-    let a = finishing (topsOf setup) (framesOf xs) zero in
+    let a = toEnd setup s₁ in
     let cs = clear setup s [] t in
     let c₁ = first-clear setup n xs ys h p zero zero k ar refl refl t fresh none in
     let a₁ = first-arrays setup n xs ys h p zero zero k ar refl refl t fresh none in

@@ -8,7 +8,6 @@ use lib.ListN.{length}
 use Rattle.line.specs.Held.{Held}
 use Rattle.order.specs.Chain.{State, moment, Chain, Out, at, out}
 use Rattle.order.specs.Render.{frames, from}
-use Rattle.order.specs.Finish.{finishing}
 use Rattle.order.specs.Claims.{Whole, Finishes}
 use Rattle.order.proofs.OneStep.{made, one-step}
 use Rattle.order.proofs.Agree.{orders-agree}
@@ -23,7 +22,7 @@ use Rattle.tops.specs.Tops.{topAt, topsOf}
 use Rattle.tops.proofs.TopStages.{top-le, top-next}
 use Rattle.table.proofs.Clears.{accepted-of-clear}
 use Rattle.chain.specs.Chain.{stretch, Room, chainOf, framesOf, Ready, May, stepped}
-use Rattle.chain.specs.Run.{leftOf}
+use Rattle.chain.specs.Run.{leftOf, toEnd}
 use Rattle.chain.specs.Demands.{Arrays, Outside, Taken, AllAt, Finishing, StepByStep, heldBy, nextFrame, OneStep, StepsKeepApart, Alike, StepsStandAlone, AnyOrder, WholeFrames, RenderIsRun}
 use Rattle.chain.proofs.Stretches.{stretch-same, outside-store, outside-positions, outside-floats}
 use Rattle.chain.proofs.ChainLocal.{Sized, chain-local, chain-steady}
@@ -124,8 +123,8 @@ module _ (setup : Setup) where
   pub finishing-taken : (s : State Float Held) (order : List ℕ) → ClearOn setup s [] → Finishing setup s order → Taken setup s order
   finishing-taken s order z f = taken setup s order (clear-with setup s [] order z (f .orderly))
 
-  -- from nothing, `finishing` is such an order
-  pub finishing-is : (s : State Float Held) → Arrays s → ClearOn setup s [] → AllAt setup 0 s → Finishing setup s (finishing (topsOf setup) (framesOf (s .samples)) (s .progress))
+  -- from nothing, `toEnd` is such an order
+  pub finishing-is : (s : State Float Held) → Arrays s → ClearOn setup s [] → AllAt setup 0 s → Finishing setup s (toEnd setup s)
   finishing-is s a z f =
       let o = finishing-finishes (chainOf setup) (Room setup) (Sized setup) (chain-local setup) (framesOf (s .samples)) s (ready setup s [] a z) in
       record { fresh = f; orderly = o .accepted; done = o .done }
@@ -153,7 +152,7 @@ pub render-is-run : RenderIsRun
 render-is-run setup s a t =
     let C = chainOf setup in
     let F : ℕ = framesOf (s .samples) in
-    let order = finishing (topsOf setup) F (s .progress) in
+    let order = toEnd setup s in
     let z = clear setup s [] t in
     let v = ready setup s [] a z in
     let f = finishing-finishes C (Room setup) (Sized setup) (chain-local setup) F s v in

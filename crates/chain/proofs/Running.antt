@@ -1,4 +1,4 @@
--- What `run` and `render` know once their call is accepted, and what they leave by then or otherwise. Assumes nothing.
+-- What is known once a call is accepted, and what it leaves then or otherwise. Assumes nothing.
 use mathlib.Core.Path.{_≡_}
 use mathlib.Core.Bool.{false}
 use mathlib.Core.List.{List, []}
@@ -7,13 +7,11 @@ use lib.Ieee.{Float}
 use lib.ListN.{length}
 use Rattle.line.specs.Held.{Held}
 use Rattle.order.specs.Chain.{State}
-use Rattle.order.specs.Finish.{finishing}
 use Rattle.stage.specs.declared.setup.Setup.{Setup}
 use Rattle.answer.specs.Answer.{acceptedOf}
-use Rattle.tops.specs.Tops.{topsOf}
 use Rattle.table.proofs.Clears.{clear-of-accepted}
-use Rattle.chain.specs.Chain.{framesOf, Ready, Orderly, ordered}
-use Rattle.chain.specs.Run.{answerOn, leftOf, renderedOf}
+use Rattle.chain.specs.Chain.{Ready, Orderly, ordered}
+use Rattle.chain.specs.Run.{answerOn, leftBy, leftOf, toEnd, renderedOf}
 use Rattle.chain.specs.Demands.{Arrays, Taken}
 use Rattle.chain.proofs.Accepts.{ClearOn, ready, orderly}
 
@@ -30,15 +28,22 @@ module _ (setup : Setup) (s : State Float Held) where
     pub can-run : Arrays s → Taken setup s order → CanRun setup s order
     can-run a t = let z = clear t in record { can = ready setup s order a z; runs = orderly setup s order z }
 
+    -- these entries are run, or nothing is
+    pub left-by : (entries : List ℕ) → Taken setup s order → leftBy setup s order entries ≡ ordered setup s entries
+    left-by entries t = rw t
+
+    pub left-by-not : (entries : List ℕ) → acceptedOf (answerOn setup s order) ≡ false → leftBy setup s order entries ≡ s
+    left-by-not entries t = rw t
+
     pub left-is : Taken setup s order → leftOf setup s order ≡ ordered setup s order
-    left-is t = rw t
+    left-is t = left-by order t
 
     pub left-not : acceptedOf (answerOn setup s order) ≡ false → leftOf setup s order ≡ s
-    left-not t = rw t
+    left-not t = left-by-not order t
 
   -- ---- and every stage to the last frame
-  pub rendered-is : Taken setup s [] → renderedOf setup s ≡ ordered setup s (finishing (topsOf setup) (framesOf (s .samples)) (s .progress))
-  rendered-is t = rw t
+  pub rendered-is : Taken setup s [] → renderedOf setup s ≡ ordered setup s (toEnd setup s)
+  rendered-is t = left-by [] (toEnd setup s) t
 
   pub rendered-not : acceptedOf (answerOn setup s []) ≡ false → renderedOf setup s ≡ s
-  rendered-not t = rw t
+  rendered-not t = left-by-not [] (toEnd setup s) t

@@ -12,7 +12,7 @@ use Rattle.line.specs.Held.{Held}
 use Rattle.order.specs.Order.{count, run, Allowed}
 use Rattle.order.specs.Chain.{State, at, step, Ok, Inv}
 use Rattle.order.specs.Claims.{Stepped, Kept}
-use Rattle.order.specs.Finish.{finishing-from, finishing}
+use Rattle.order.specs.Finish.{finishing-from}
 use Rattle.order.proofs.Orders.{hit-other, run-append, accepted-prefix, accepted-suffix}
 use Rattle.order.proofs.OneStep.{one-step}
 use Rattle.order.proofs.Keeps.{run-keeps}
@@ -20,6 +20,7 @@ use Rattle.order.proofs.Finishing.{finishing-finishes}
 use Rattle.stage.specs.declared.setup.Setup.{Setup}
 use Rattle.tops.specs.Tops.{topsOf}
 use Rattle.chain.specs.Chain.{chainOf, Room, framesOf, Ready, May, Orderly, stepped, ordered}
+use Rattle.chain.specs.Run.{toEnd}
 use Rattle.chain.proofs.ChainLocal.{Sized, chain-local}
 
 -- of an order from s₀ on, xs is left at s
@@ -31,7 +32,7 @@ pub record Left (setup : Setup) (s₀ : State Float Held) (order : List ℕ) (s 
 
 -- of the order that brings every top stage to the last frame, what is left is of the stages from k on, which are where they were
 pub record Finished (setup : Setup) (s₀ : State Float Held) (k : ℕ) (s : State Float Held) : Type 0 where
-  pub left : Left setup s₀ (finishing (topsOf setup) (framesOf (s₀ .samples)) (s₀ .progress)) s (finishing-from k (topsOf setup - k) (framesOf (s₀ .samples)) (s₀ .progress))
+  pub left : Left setup s₀ (toEnd setup s₀) s (finishing-from k (topsOf setup - k) (framesOf (s₀ .samples)) (s₀ .progress))
   pub rest : (j : ℕ) → k ≤ j → at s j ≡ at s₀ j
 
 pub left-first : {setup : Setup} {s₀ : State Float Held} {order : List ℕ} → Ready setup s₀ → Orderly setup s₀ order → Left setup s₀ order s₀ order
@@ -100,7 +101,7 @@ module _ {setup : Setup} {s₀ : State Float Held} {k : ℕ} {s : State Float He
     abbrev others : List ℕ
     others = finishing-from (k + 1) (topsOf setup - (k + 1)) (framesOf (s₀ .samples)) (s₀ .progress)
 
-    finish-turn : Left setup s₀ (finishing (topsOf setup) (framesOf (s₀ .samples)) (s₀ .progress)) s (mine ++ others)
+    finish-turn : Left setup s₀ (toEnd setup s₀) s (mine ++ others)
     unfolding finishing-from
     finish-turn =
         let e : topsOf setup - k ≡ suc (topsOf setup - suc k) = omega arith in
@@ -125,6 +126,6 @@ module _ {setup : Setup} {s₀ : State Float Held} {k : ℕ} {s : State Float He
           rest = λ j g. omega (arith, o .moved j, others-none j k (F - at s k) (omega arith), t .rest j (omega arith));
         })
 
-  pub finish-last : topsOf setup ≤ k → s ≡ ordered setup s₀ (finishing (topsOf setup) (framesOf (s₀ .samples)) (s₀ .progress))
+  pub finish-last : topsOf setup ≤ k → s ≡ ordered setup s₀ (toEnd setup s₀)
   unfolding finishing-from
   finish-last h = let e : topsOf setup - k ≡ 0 = omega arith in (rw e at (t .left)) .same
