@@ -8,26 +8,29 @@ use lib.Ieee.{Float, nan}
 use Rattle.float.specs.Finite.{finiteOf}
 use Rattle.order.specs.Order.{Allowed}
 use Rattle.order.specs.Chain.{OkFrom}
-use Rattle.stage.specs.declared.kind.Stage.{Stage}
-use Rattle.stage.specs.Kind.{stageAt}
-use Rattle.stage.specs.Layout.{startOf, placePositions}
+use Rattle.rows.specs.Condition.{Holds}
+use Rattle.memories.specs.Sizes.{places, placePositions}
+use Rattle.stage.specs.declared.setup.Setup.{Setup}
+use Rattle.stage.specs.Setup.{stageAt, usedOf}
+use Rattle.stage.specs.Layout.{neededOf}
 use Rattle.stage.specs.Lines.{linesOf}
 use Rattle.stage.specs.Range.{inRangeOf}
 use Rattle.tops.specs.Tops.{topsOf}
+use Rattle.refuse.specs.Shape.{faulty}
+use Rattle.refuse.specs.Entries.{tick}
 use Rattle.refuse.specs.Refusals.{unrunFrom}
-use Rattle.table.specs.Table.{tick, Faulty}
 
-pub record Clear (rate : ℕ) (l : List Stage) (c floats : ℕ) (samples : List Float) (positions progress order : List ℕ) : Type 0 where
-  pub slow : 8000 ≤ rate
-  pub fast : rate ≤ 192000
-  pub few : c ≤ 16
-  pub shapes : (i : ℕ) → i < c → Faulty l c i → ⊥
-  pub settings : (i : ℕ) → i < c → inRangeOf (stageAt l i) ≡ true
-  pub room : startOf rate l c ≤ floats
-  pub found : (i j : ℕ) → i < c → j < length (linesOf rate (stageAt l i)) → getD positions (placePositions * i + j) 0 < getD (linesOf rate (stageAt l i)) j 0
+pub record Clear (setup : Setup) (floats : ℕ) (samples : List Float) (positions progress order : List ℕ) : Type 0 where
+  pub slow : 8000 ≤ setup .rate
+  pub fast : setup .rate ≤ 192000
+  pub few : setup .count ≤ places
+  pub shapes : (i : ℕ) → i < usedOf setup → Holds (faulty setup i) → ⊥
+  pub settings : (i : ℕ) → i < usedOf setup → inRangeOf (stageAt setup i) ≡ true
+  pub room : neededOf setup ≤ floats
+  pub found : (i j : ℕ) → i < usedOf setup → j < length (linesOf (setup .rate) (stageAt setup i)) → getD positions (placePositions * i + j) 0 < getD (linesOf (setup .rate) (stageAt setup i)) j 0
   pub even : length samples % 2 ≡ 0
   pub short : length samples / 2 ≤ 4096
-  pub within : (k : ℕ) → k < topsOf l c → getD progress k 0 ≤ length samples / 2
-  pub falls : (k : ℕ) → k < topsOf l c → 0 < k → getD progress k 0 ≤ getD progress (k - 1) 0
-  pub finite : (i : ℕ) → unrunFrom (topsOf l c) progress ≤ i → i < length samples → finiteOf (getD samples i nan) ≡ true
-  pub runs : Allowed tick (OkFrom (topsOf l c) (length samples / 2)) progress order
+  pub within : (k : ℕ) → k < topsOf setup → getD progress k 0 ≤ length samples / 2
+  pub falls : (k : ℕ) → k < topsOf setup → 0 < k → getD progress k 0 ≤ getD progress (k - 1) 0
+  pub finite : (i : ℕ) → unrunFrom (topsOf setup) progress ≤ i → i < length samples → finiteOf (getD samples i nan) ≡ true
+  pub runs : Allowed tick (OkFrom (topsOf setup) (length samples / 2)) progress order

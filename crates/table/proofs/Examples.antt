@@ -1,32 +1,40 @@
 -- The edges of document 01's table of refusals, worked out by antt on the definition that the contracts cite. Assumes nothing.
 use mathlib.Core.Path.{_≡_, refl}
 use mathlib.Core.Bool.{false}
-use mathlib.Core.List.{List, [], _∷_}
+use mathlib.Core.List.{List, [], _∷_, map}
 use Prim.Native.Nat.{ℕ}
 use native.Mathlib.Omega.{arith}
-use borrow.Author.Tests.{lt-ltb, le-ltb}
+use borrow.Author.Tests.{lt-ltb, le-leb}
 use lib.IntN.{pos}
 use lib.ListN.{length, replicate}
 use lib.Ieee.{Float, fin, le}
 use Rattle.float.specs.Literal.{literal}
 use Rattle.float.specs.Finite.{finiteOf}
-use Rattle.tuning.specs.Tuning.{reverbFloats, reverbLines}
+use Rattle.rows.specs.First.{firstFrom}
+use Rattle.tuning.specs.Tuning.{reverbLines}
+use Rattle.memories.specs.Sizes.{places, allPositions}
 use Rattle.stage.specs.declared.kind.Stage.{Stage}
 use Rattle.stage.specs.declared.kind.Stage.the-variants.{VolumeControl, Reverb, Delay}
-use Rattle.stage.specs.First.{firstFrom}
-use Rattle.stage.specs.Kind.{ownedOf, nextPlace}
+use Rattle.stage.specs.declared.setup.Setup.{Setup}
+use Rattle.stage.specs.Holding.{holdingOf}
+use Rattle.stage.specs.Setup.{nextPlace}
 use Rattle.stage.specs.Range.{inRangeOf}
+use Rattle.stage.specs.Lines.{floatsOf}
 use Rattle.stage.specs.Layout.{startOf}
-use Rattle.stage.specs.Lines.{lostOf}
 use Rattle.answer.specs.Answer.{numberOf, placeOf}
-use Rattle.refuse.specs.Shape.{faultyOf}
 use Rattle.tops.specs.Tops.{topsOf}
-use Rattle.refuse.specs.Refusals.{stuckOf, answerOf}
+use Rattle.refuse.specs.Shape.{faulty, depthOf}
+use Rattle.refuse.specs.Entries.{stuck}
+use Rattle.refuse.specs.Refusals.{answerOf}
+
+-- these stages, at this rate
+abbrev pub setupOf : ℕ → List Stage → Setup
+setupOf rate l = record { rate = rate; count = length l; slots = map (λ s. record { stage = s }) l }
 
 -- what a call answers, as its number and place: of some stages and floats, from positions and progress of zero
 abbrev pub told : ℕ → List Stage → ℕ → List Float → List ℕ → List ℕ
 told rate l floats samples order =
-    let answer = answerOf rate l (length l) floats samples (replicate 384 0) (replicate 16 0) order in
+    let answer = answerOf (setupOf rate l) floats samples (replicate allPositions 0) (replicate places 0) order in
     numberOf answer ∷ placeOf answer ∷ []
 
 abbrev pub given : ℕ → ℕ → List ℕ
@@ -52,12 +60,12 @@ abbrev pub none : ℕ → List ℕ → List ℕ
 none rate order = told rate [] 0 [] order
 
 pub none-accepted : none 48000 [] ≡ accepted
-unfolding answerOf firstFrom startOf topsOf stuckOf
+unfolding answerOf firstFrom startOf topsOf
 none-accepted = refl
 
 pub none-entry : (k : ℕ) (ks : List ℕ) → none 48000 (k ∷ ks) ≡ given 11 0
-unfolding answerOf firstFrom startOf topsOf stuckOf
-none-entry k ks = rw (le-ltb k 0 (omega arith), lt-ltb 0 (length (k ∷ ks)) (omega arith))
+unfolding answerOf firstFrom startOf topsOf stuck
+none-entry k ks = rw (le-leb 0 k (omega arith), lt-ltb 0 (length (k ∷ ks)) (omega arith))
 
 -- ---- "rate 7,999 and 192,001 refused, 8,000 and 192,000 taken"
 pub rate-7999 : none 7999 [] ≡ given 1 0
@@ -69,31 +77,31 @@ unfolding answerOf
 rate-192001 = refl
 
 pub rate-8000 : none 8000 [] ≡ accepted
-unfolding answerOf firstFrom startOf topsOf stuckOf
+unfolding answerOf firstFrom startOf topsOf
 rate-8000 = refl
 
 pub rate-192000 : none 192000 [] ≡ accepted
-unfolding answerOf firstFrom startOf topsOf stuckOf
+unfolding answerOf firstFrom startOf topsOf
 rate-192000 = refl
 
 -- ---- "one reverb at 44,100 needs 25,450 floats: 25,449 gives refusal 5 with place 25,450"
 pub reverb-25449 : told 44100 (reverb ∷ []) 25449 [] [] ≡ given 5 25450
-unfolding answerOf faultyOf ownedOf firstFrom inRangeOf literal le finiteOf startOf reverbFloats
+unfolding answerOf faulty depthOf firstFrom inRangeOf literal le finiteOf startOf floatsOf reverbLines
 reverb-25449 = refl
 
 pub reverb-25450 : told 44100 (reverb ∷ []) 25450 [] [] ≡ accepted
-unfolding answerOf faultyOf ownedOf firstFrom inRangeOf literal le finiteOf startOf reverbFloats lostOf reverbLines topsOf nextPlace stuckOf
+unfolding answerOf faulty depthOf firstFrom inRangeOf literal le finiteOf startOf floatsOf reverbLines topsOf nextPlace
 reverb-25450 = refl
 
 -- ---- a wrong shape: owned stages that no list can have; and a depth of 4, where 3 is taken
 pub owned-most : told 44100 (delay 1 18446744073709551615 ∷ []) 2 [] [] ≡ given 3 0
-unfolding answerOf faultyOf ownedOf firstFrom
+unfolding answerOf faulty holdingOf firstFrom
 owned-most = refl
 
 pub depth-3 : told 44100 (delay 1 3 ∷ delay 1 2 ∷ delay 1 1 ∷ volume ∷ []) 6 [] [] ≡ accepted
-unfolding answerOf faultyOf ownedOf firstFrom inRangeOf startOf lostOf topsOf nextPlace finiteOf stuckOf
+unfolding answerOf faulty depthOf firstFrom inRangeOf startOf floatsOf topsOf nextPlace finiteOf
 depth-3 = refl
 
 pub depth-4 : told 44100 (delay 1 4 ∷ delay 1 3 ∷ delay 1 2 ∷ delay 1 1 ∷ volume ∷ []) 8 [] [] ≡ given 3 4
-unfolding answerOf faultyOf ownedOf firstFrom
+unfolding answerOf faulty depthOf holdingOf firstFrom
 depth-4 = refl

@@ -1,7 +1,5 @@
-pub mod Stucks
-pub mod Numbered
-pub mod Plain
 pub mod TableHolds
+pub mod Runs
 pub mod Clear
 pub mod Clears
 pub mod Examples

@@ -1,2 +1,2 @@
-// Theory alone, nothing here runs: document 01's table of refusals in plain logic, and that what
-// crate `refuse` answers is given exactly by it.
+// Theory alone, nothing here runs: what crate `refuse` answers is given exactly by document 01's table
+// of refusals, in plain logic.
