@@ -23,8 +23,8 @@ module _ (r r' : Outcome) (xs st xs' st' : List Float) (e : r .answer ≡ r' .an
   same-left : _≡_ {A = Left} (record { samples = xs; store = st }) (record { samples = xs'; store = st' })
   same-left = λ i. record { samples = f i .samples; store = f i .held .store }
 
-pub run-single : SingleLent {D = Left} run.run.Reads.Post (λ κs s. record { samples = now (s .1 .1 .1 .0); store = now (s .1 .1 .1 .1 .1 .0) })
+pub run-single : SingleLent {D = Left} run.run.Reads.Post (λ κs s. record { samples = now (s .1 .0); store = now (s .1 .1 .1 .0) })
 run-single κs a r r' s s' p q = (same-outcome r r' _ _ _ _ (p .0 ∙ sym (q .0)) (p .1 ∙ sym (q .1)), same-left r r' _ _ _ _ (p .0 ∙ sym (q .0)) (p .1 ∙ sym (q .1)))
 
-pub render-single : SingleLent {D = Left} render.render.Reads.Post (λ κs s. record { samples = now (s .1 .1 .1 .0); store = now (s .1 .1 .1 .1 .1 .0) })
+pub render-single : SingleLent {D = Left} render.render.Reads.Post (λ κs s. record { samples = now (s .1 .0); store = now (s .1 .1 .1 .0) })
 render-single κs a r r' s s' p q = (same-outcome r r' _ _ _ _ (p .0 ∙ sym (q .0)) (p .1 ∙ sym (q .1)), same-left r r' _ _ _ _ (p .0 ∙ sym (q .0)) (p .1 ∙ sym (q .1)))

@@ -106,6 +106,6 @@ module _ (setup : Setup) (h : Held) (room : Room setup h) where
       unfolding replaced
       replaced-comm j g b k m n q =
           λ t. holds
-          (splice-comm (start i) (a .store) (start j) (b .store) (h .store) (omega (arith, starts-ie, start-le setup e j k, f .store)) (omega (arith, start-le setup j g m, start-le setup g c n, q .store, room .store)) t)
+          (splice-comm (start i) (a .store) (start j) (b .store) (h .store) (omega (arith, starts-ie, start-le setup e j k, f .store)) (omega (arith, start-le setup j g m, start-le setup g (usedOf setup) n, q .store, room .store)) t)
           (splice-comm (placePositions * i) (a .positions) (placePositions * j) (b .positions) (h .positions) (omega (arith, f .positions)) (omega (arith, q .positions, room .positions)) t)
           (splice-comm (placeFloats * i) (a .floats) (placeFloats * j) (b .floats) (h .floats) (omega (arith, f .floats)) (omega (arith, q .floats, room .floats)) t)

@@ -26,12 +26,14 @@ pub(crate) fn drive(
         ≡ leftBy setup (state (now (samples .entry)) (now (store .entry)) (memories .positions) (memories .floats) progress) (now (order .entry))
         (cond «to_end» (toEnd setup (state (now (samples .entry)) (now (store .entry)) (memories .positions) (memories .floats) progress)) (now (order .entry))) ⌝ }
 {
-    let mut positions = memories.positions;
-    let mut floats = memories.floats;
-    let mut done = progress;
-    let checked = check(setup, store.len(), samples, &positions, &done, order);
+    let remembered = memories.positions;
+    let begun = progress;
+    let checked = check(setup, store.len(), samples, &remembered, &begun, order);
     let answer = checked.answer;
     if is_accepted(answer) {
+        let mut positions = remembered;
+        let mut floats = memories.floats;
+        let mut done = begun;
         let starts = checked.starts;
         let tops = checked.tops;
         let places = tops.places;

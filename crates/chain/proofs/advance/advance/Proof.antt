@@ -60,20 +60,20 @@ element-copy-out-done c = let s = c .before .before .before .before .before .bef
 mul-at : tie.Need-mul-at
 mul-at c = search needs
 
-mul-t27 : tie.Need-mul-t27
-mul-t27 c = search needs
+mul-t25 : tie.Need-mul-t25
+mul-t25 c = search needs
+
+slice-read-t36 : tie.Need-slice-read-t36
+slice-read-t36 c = search needs
+
+add-t28 : tie.Need-add-t28
+add-t28 c = search needs
+
+mul-t22 : tie.Need-mul-t22
+mul-t22 c = search needs
 
 slice-read-t38 : tie.Need-slice-read-t38
 slice-read-t38 c = search needs
-
-add-t30 : tie.Need-add-t30
-add-t30 c = search needs
-
-mul-t24 : tie.Need-mul-t24
-mul-t24 c = search needs
-
-slice-read-t40 : tie.Need-slice-read-t40
-slice-read-t40 c = search needs
 
 mul-process : tie.Need-mul-process
 mul-process c = let s = c .before .before .before .before .before .before .before .before .before .before .before in omega (arith, here s, s .good)
@@ -177,11 +177,11 @@ advance-spec =
     mul-done
     element-copy-out-done
     mul-at
-    mul-t27
+    mul-t25
+    slice-read-t36
+    add-t28
+    mul-t22
     slice-read-t38
-    add-t30
-    mul-t24
-    slice-read-t40
     mul-process
     sub-process
     part-process-start
