@@ -26,7 +26,7 @@ use Rattle.stage.specs.Range.{inRangeOf}
 use Rattle.stage.specs.Layout.{startOf, startsOf, sizeOf}
 use Rattle.stage.specs.Lines.{lengthsOf, floatsOf}
 use Rattle.step.specs.Step.{processAt}
-use Rattle.refuse.specs.Shape.{faulty}
+use Rattle.refuse.specs.Shape.{depthOf, faulty}
 use Rattle.tops.specs.Tops.{topAt, topsOf}
 use Rattle.refuse.specs.Entries.{stuck}
 use Rattle.refuse.specs.Refusals.{answerOf}
@@ -34,5 +34,5 @@ use Rattle.chain.specs.Chain.{stretch, replaced}
 use Rattle.examples.specs.Rows.{RowsHold}
 
 pub rows-hold : RowsHold
-unfolding sqrtOf narrowOf amplitudeOf addOf mulOf divOf mixOf pannedOf sqrt2 distortionOf front back joined frameAt frameIn nextPosition passedOf passLineOf storeOf combedOf combLineOf lengthOf firstFrom holdingOf emptySetup withStage nextPlace inRangeOf startOf startsOf sizeOf lengthsOf floatsOf processAt faulty topsOf topAt stuck answerOf Order.out Order.put Order.step finishing-from stretch replaced absOf unitOf bothOf finiteOf literal add sub mul div neg lt le eq ofBits toBits round
+unfolding sqrtOf narrowOf amplitudeOf addOf mulOf divOf mixOf pannedOf sqrt2 distortionOf front back joined frameAt frameIn nextPosition passedOf passLineOf storeOf combedOf combLineOf lengthOf firstFrom holdingOf emptySetup withStage nextPlace inRangeOf startOf startsOf sizeOf lengthsOf floatsOf processAt depthOf faulty topsOf topAt stuck answerOf Order.out Order.put Order.step finishing-from stretch replaced absOf unitOf bothOf finiteOf literal add sub mul div neg lt le eq ofBits toBits round
 rows-hold = (refl, (refl, (refl, (refl, (refl, (refl, (refl, (refl, (refl, (refl, (refl, (refl, (refl, (refl, (refl, (refl, tt))))))))))))))))
