@@ -160,7 +160,8 @@ size_t sedhavil_frames_out(const float *samples, size_t samples_length, uint8_t 
 
 /* ---- A stage's twelve words: the kind, then its numbers. A level in whole dB is its two's complement, an f32
  * its bits in the low half, an f64 its bits. Words that a kind does not use must be 0, else the answer is 102:
- * so a host whose layout is another is told and not misread. The functions below write all twelve. */
+ * so words of another layout are told, unless their zeros happen to stand where this one has its own. The
+ * functions below write all twelve. */
 
 enum {
     SEDHAVIL_VOLUME_CONTROL = 0,
