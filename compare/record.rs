@@ -4,6 +4,7 @@ use crate::case::{Case, What};
 use crate::common::bits32;
 use crate::face::Held;
 use crate::table::Refusal;
+use crate::words::WORDS;
 
 // The most that the program has room for.
 const SAMPLES: usize = 8_194;
@@ -103,7 +104,7 @@ pub fn record(case: &Case, answer: Refusal, after: &Held) -> Option<Vec<u8>> {
     let order = order_of(case)?;
     let words = case.words();
     let mut body = Body::default();
-    body.section(|units| put_words(units, &words[..words.len().min(5 * STAGES)]));
+    body.section(|units| put_words(units, &words[..words.len().min(WORDS * STAGES)]));
     body.changes(&zeros(&case.held), &case.held);
     body.section(|units| put_numbers(units, &vec![0; order.len()], order));
     body.changes(&case.held, after);
