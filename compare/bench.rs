@@ -151,7 +151,7 @@ impl Ours {
     fn new(stages: &[Listed], block: usize) -> Self {
         let floats = stages.iter().map(|stage| stage.floats(RATE)).sum();
         Self {
-            words: stages.iter().flat_map(|stage| stage.words(0)).collect(),
+            words: stages.iter().flat_map(|stage| stage.words()).collect(),
             input: noise(block),
             held: Held {
                 samples: vec![0.0; 2 * block],

@@ -4,7 +4,7 @@ use crate::face::Held;
 use crate::fed;
 use crate::stage::Stage;
 use crate::table::{self, Delay, Reverb};
-use crate::words;
+use crate::words::{self, WORDS};
 use std::fmt::{self, Display, Formatter};
 
 // A stage in a list.
@@ -14,7 +14,7 @@ pub enum Listed {
     Reverb(Reverb),
     Delay(Delay),
     // Words as they are, with or without a meaning; kira is not built from them.
-    Words([u64; 5]),
+    Words([u64; WORDS]),
 }
 
 fn decibels(level: i32) -> u64 {
@@ -25,18 +25,20 @@ fn single(x: f32) -> u64 {
     x.to_bits() as u64
 }
 
+// Words that are used, and 0 after them.
+fn padded<const USED: usize>(used: [u64; USED]) -> [u64; WORDS] {
+    let mut words = [0; WORDS];
+    words[..USED].copy_from_slice(&used);
+    words
+}
+
 impl Listed {
-    // The words that its kind does not use are litter.
-    pub fn words(&self, litter: u64) -> [u64; 5] {
+    pub fn words(&self) -> [u64; WORDS] {
         match *self {
-            Listed::Alone(Stage::Volume { volume }) => {
-                [0, decibels(volume), litter, litter, litter]
-            }
-            Listed::Alone(Stage::Panning { panning }) => {
-                [1, single(panning), litter, litter, litter]
-            }
+            Listed::Alone(Stage::Volume { volume }) => padded([0, decibels(volume)]),
+            Listed::Alone(Stage::Panning { panning }) => padded([1, single(panning)]),
             Listed::Alone(Stage::Distortion { kind, drive, mix }) => {
-                [2, kind as u64, decibels(drive), single(mix), litter]
+                padded([2, kind as u64, decibels(drive), single(mix)])
             }
             Listed::Alone(Stage::Filter {
                 mode,
@@ -45,38 +47,38 @@ impl Listed {
                 mix,
             }) => {
                 let g = fed::tangent(key);
-                [
+                padded([
                     3,
                     mode as u64,
                     g.to_bits(),
                     resonance.to_bits(),
                     single(mix),
-                ]
+                ])
             }
             Listed::Alone(Stage::Eq { kind, key, q, gain }) => {
                 let g = fed::tangent(key);
-                [4, kind as u64, g.to_bits(), decibels(gain), q.to_bits()]
+                padded([4, kind as u64, g.to_bits(), decibels(gain), q.to_bits()])
             }
-            Listed::Reverb(r) => [
+            Listed::Reverb(r) => padded([
                 5,
                 single(r.feedback),
                 single(r.damping),
                 single(r.width),
                 single(r.mix),
-            ],
-            Listed::Delay(d) => [
+            ]),
+            Listed::Delay(d) => padded([
                 6,
                 d.frames as u64,
                 decibels(d.feedback),
                 single(d.mix),
                 d.owned as u64,
-            ],
+            ]),
             Listed::Words(words) => words,
         }
     }
 
     pub fn read(&self) -> Option<table::Stage> {
-        words::stage(self.words(0))
+        words::stage(self.words())
     }
 
     pub fn owned(&self) -> usize {
@@ -110,8 +112,7 @@ pub struct Call {
 pub struct Case {
     pub rate: u32,
     pub stages: Vec<Listed>,
-    // in the words that no stage uses, and in words after the last whole stage
-    pub litter: u64,
+    // words after the last whole stage
     pub loose: usize,
     pub held: Held,
     pub calls: Vec<Call>,
@@ -119,11 +120,8 @@ pub struct Case {
 
 impl Case {
     pub fn words(&self) -> Vec<u64> {
-        let whole = self
-            .stages
-            .iter()
-            .flat_map(|stage| stage.words(self.litter));
-        whole.chain(vec![self.litter; self.loose]).collect()
+        let whole = self.stages.iter().flat_map(|stage| stage.words());
+        whole.chain(vec![0; self.loose]).collect()
     }
 
     pub fn depth(&self, place: usize) -> usize {
@@ -176,17 +174,9 @@ fn write_wholes(f: &mut Formatter, name: &str, wholes: &[usize]) -> fmt::Result 
 
 impl Display for Case {
     fn fmt(&self, f: &mut Formatter) -> fmt::Result {
-        writeln!(
-            f,
-            "  rate {}, litter {}, loose {}",
-            self.rate, self.litter, self.loose
-        )?;
+        writeln!(f, "  rate {}, loose {}", self.rate, self.loose)?;
         for (place, stage) in self.stages.iter().enumerate() {
-            writeln!(
-                f,
-                "  stage {place}: {stage:?} {:x?}",
-                stage.words(self.litter)
-            )?;
+            writeln!(f, "  stage {place}: {stage:?} {:x?}", stage.words())?;
         }
         write_floats(f, "samples", &self.held.samples)?;
         write_floats(f, "store", &self.held.store)?;

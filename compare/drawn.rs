@@ -221,7 +221,6 @@ fn drawn(random: &mut Random, rates: &Rates, stages: usize, frames: usize, count
     let mut case = Case {
         rate,
         stages,
-        litter: random.one_of(&[0, 1, u64::MAX]),
         loose: 0,
         held: Held::default(),
         calls: vec![],

@@ -166,7 +166,6 @@ fn case(random: &mut Random, rate: u32, stages: Vec<Listed>, samples: usize) -> 
     let mut case = Case {
         rate,
         stages,
-        litter: 0,
         loose: 0,
         held,
         calls: vec![call],

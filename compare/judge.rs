@@ -92,7 +92,7 @@ fn count_steps(case: &Case, before: &Held, after: &Held, is_held: bool, seen: &m
         if is_held {
             seen.steps_held += steps;
             for place in top..=top + case.stages[top].owned() {
-                seen.by_kind[case.stages[place].words(0)[0] as usize] += steps;
+                seen.by_kind[case.stages[place].words()[0] as usize] += steps;
                 seen.by_depth[case.depth(place)] += steps;
             }
         }

@@ -9,7 +9,7 @@ use crate::table::Refusal;
 const SAMPLES: usize = 8_194;
 const STORE: usize = 16_384;
 const ENTRIES: usize = 256;
-const STAGES: usize = 16;
+const STAGES: usize = 20;
 
 // The largest unit stands for the largest number; those from it on have no unit.
 pub const LARGEST: usize = 0xffff;
@@ -91,7 +91,8 @@ impl Body {
 // The order of a case that there is room for.
 fn order_of(case: &Case) -> Option<&[usize]> {
     let held = &case.held;
-    let fits = held.samples.len() <= SAMPLES && held.store.len() <= STORE;
+    let fits =
+        case.stages.len() <= STAGES && held.samples.len() <= SAMPLES && held.store.len() <= STORE;
     match &case.calls[0].what {
         What::Run(order) if fits && order.len() <= ENTRIES => Some(order),
         _ => None,
@@ -101,9 +102,8 @@ fn order_of(case: &Case) -> Option<&[usize]> {
 // The first call of a case, with its answer and what it leaves, where there is room for it.
 pub fn record(case: &Case, answer: Refusal, after: &Held) -> Option<Vec<u8>> {
     let order = order_of(case)?;
-    let words = case.words();
     let mut body = Body::default();
-    body.section(|units| put_words(units, &words[..words.len().min(5 * STAGES)]));
+    body.section(|units| put_words(units, &case.words()));
     body.changes(&zeros(&case.held), &case.held);
     body.section(|units| put_numbers(units, &vec![0; order.len()], order));
     body.changes(&case.held, after);

@@ -154,9 +154,6 @@ impl Shrinker {
         if self.case.rate != 8_000 {
             self.offer_changed(|case| case.rate = 8_000);
         }
-        if self.case.litter != 0 {
-            self.offer_changed(|case| case.litter = 0);
-        }
     }
 
     fn zeros(&mut self) {

@@ -67,7 +67,6 @@ fn case(stages: Vec<Listed>, frames: usize, progress: &[usize], calls: Vec<What>
     Case {
         rate: 8_000,
         stages,
-        litter: 0,
         loose: 0,
         held,
         calls: calls.collect(),

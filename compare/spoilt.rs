@@ -7,6 +7,7 @@ use crate::inputs::{DOUBLES, QS, SINGLES, key};
 use crate::rates::Rates;
 use crate::stage::Stage;
 use crate::table::{self, Delay};
+use crate::words::WORDS;
 
 const LEVELS: [i32; 12] = [
     -61,
@@ -250,7 +251,7 @@ fn length(random: &mut Random, case: &mut Case) {
     let changed = |length: usize| if up { length + 1 } else { length - 1 };
     let held = &mut case.held;
     match random.below(5) {
-        0 => case.loose = random.between(1, 4) as usize,
+        0 => case.loose = random.between(1, WORDS as i32 - 1) as usize,
         1 => held.positions.resize(changed(384), 0),
         2 => held.floats.resize(changed(320), 0.0),
         3 => held.progress.resize(changed(16), 0),
@@ -263,7 +264,7 @@ fn word(random: &mut Random, case: &mut Case) {
     let Some(place) = any_place(random, case.stages.len()) else {
         return;
     };
-    let mut words = case.stages[place].words(case.litter);
+    let mut words = case.stages[place].words();
     let at = random.below(5) as usize;
     words[at] = match random.below(8) {
         0 => random.next(),
@@ -278,7 +279,17 @@ fn word(random: &mut Random, case: &mut Case) {
     case.stages[place] = Listed::Words(words);
 }
 
-const SPOILERS: [fn(&mut Random, &mut Case); 15] = [
+// A bit in a word that few kinds use, or none.
+fn unused_word(random: &mut Random, case: &mut Case) {
+    let Some(place) = any_place(random, case.stages.len()) else {
+        return;
+    };
+    let mut words = case.stages[place].words();
+    words[random.between(2, WORDS as i32 - 1) as usize] |= 1 << random.below(64);
+    case.stages[place] = Listed::Words(words);
+}
+
+const SPOILERS: [fn(&mut Random, &mut Case); 16] = [
     rate,
     many_stages,
     owned,
@@ -294,6 +305,7 @@ const SPOILERS: [fn(&mut Random, &mut Case); 15] = [
     entry,
     length,
     word,
+    unused_word,
 ];
 
 // A case of one call, short, with up to three things changed.

@@ -82,12 +82,9 @@ fn positions(random: &mut Random, case: &mut Case) {
 
 // A case whose memories have their lengths.
 pub fn thin(random: &mut Random, case: &mut Case) {
-    if !one_in(random, 32) {
-        case.litter = 0;
-    }
     positions(random, case);
     let soon = read_soon(random, case);
-    let kinds: Vec<u64> = case.stages.iter().map(|stage| stage.words(0)[0]).collect();
+    let kinds: Vec<u64> = case.stages.iter().map(|stage| stage.words()[0]).collect();
     let tops = case.tops().len();
     let held = &mut case.held;
     floats(random, &mut held.store, |random, at| {

@@ -2,6 +2,8 @@
 // plainly: what a caller's words mean, or that they mean nothing.
 use crate::table::{Delay, Refusal, Reverb, Stage};
 
+pub const WORDS: usize = 12;
+
 fn single(word: u64) -> Option<f32> {
     u32::try_from(word).ok().map(f32::from_bits)
 }
@@ -14,9 +16,21 @@ fn below(word: u64, cases: u64) -> Option<()> {
     (word < cases).then_some(())
 }
 
-// Words that a kind does not use are not looked at.
-pub fn stage(words: [u64; 5]) -> Option<Stage> {
-    let [kind, a, b, c, d] = words;
+// How many of its words a stage of this kind uses.
+fn used(kind: u64) -> usize {
+    match kind {
+        0 | 1 => 2,
+        2 => 4,
+        _ => 5,
+    }
+}
+
+// Words that a kind does not use are 0.
+pub fn stage(words: [u64; WORDS]) -> Option<Stage> {
+    let [kind, a, b, c, d, ..] = words;
+    if words[used(kind)..].iter().any(|&word| word != 0) {
+        return None;
+    }
     Some(match kind {
         0 => Stage::Volume {
             volume: decibels(a)?,
@@ -71,7 +85,7 @@ pub fn wrong_length(
     progress: usize,
 ) -> Option<Refusal> {
     let wrong = [
-        words % 5 != 0,
+        words % WORDS != 0,
         positions != 384,
         floats != 320,
         progress != 16,
@@ -82,9 +96,9 @@ pub fn wrong_length(
 
 // The stages, or 102 and the first place that has no meaning.
 pub fn stages(words: &[u64]) -> Result<Vec<Stage>, Refusal> {
-    let each = words.chunks_exact(5).enumerate();
+    let each = words.chunks_exact(WORDS).enumerate();
     each.map(|(place, words)| {
-        let words: [u64; 5] = words.try_into().expect("five words");
+        let words = words.try_into().expect("a stage's words");
         stage(words).ok_or(Refusal { number: 102, place })
     })
     .collect()

@@ -44,6 +44,10 @@ static void print_left(const char *name, const float *samples) {
 }
 
 int main(void) {
+    if (sedhavil_layout_version() != SEDHAVIL_LAYOUT_VERSION) {
+        fprintf(stderr, "the library is of layout %u\n", sedhavil_layout_version());
+        return 1;
+    }
     sedhavil_stage_delay(stages, 1, 0, 1.0f, 0);
     sedhavil_stage_volume_control(stages + SEDHAVIL_WORDS, 0);
 

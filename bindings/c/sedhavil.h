@@ -13,7 +13,8 @@
  *
  *   number  refused because                                          place
  *   101     a slice has the wrong length                             0 stages, 1 positions, 2 floats, 3 progress
- *   102     a kind or mode code is unknown, or a word does not fit   the first such stage
+ *   102     a kind or mode code is unknown, a word does not fit,     the first such stage
+ *           or a word that the stage does not use is not 0
  *   1       the rate is below 8,000 or above 192,000                 0
  *   2       there are more than 16 stages                            0
  *   3       a delay owns too many stages, or a stage is too deep     the first such stage
@@ -51,15 +52,18 @@
 extern "C" {
 #endif
 
-enum {
-    SEDHAVIL_MAX_STAGES = 16,
-    SEDHAVIL_MAX_FRAMES = 4096,
-    /* the lengths that slices must have */
-    SEDHAVIL_WORDS = 5,       /* of stages: this many for each */
-    SEDHAVIL_POSITIONS = 384, /* 24 for each of 16 places in the list */
-    SEDHAVIL_FLOATS = 320,    /* 20 for each of 16 places in the list */
-    SEDHAVIL_PROGRESS = 16    /* one for each top stage; those past the last one are ignored */
-};
+/* The layout of a stage's words. It goes up with each change of what a word means, so a host asks before its
+ * first call whether sedhavil_layout_version() equals SEDHAVIL_LAYOUT_VERSION. */
+#define SEDHAVIL_LAYOUT_VERSION 1
+
+#define SEDHAVIL_PLACES 16 /* of a list of stages */
+#define SEDHAVIL_MAX_FRAMES 4096
+
+/* The lengths that slices must have. */
+#define SEDHAVIL_WORDS 12      /* of stages: this many for each */
+#define SEDHAVIL_POSITIONS 384 /* 24 for each place */
+#define SEDHAVIL_FLOATS 320    /* 20 for each place */
+#define SEDHAVIL_PROGRESS 16   /* one for each top stage; those past the last one are ignored */
 
 enum {
     SEDHAVIL_ACCEPTED = 0,
@@ -83,7 +87,10 @@ typedef struct {
     size_t place;
 } sedhavil_answer;
 
-/* ---- Functions. Each slice is a pointer and its length in elements.
+/* The layout that the library reads, to hold against SEDHAVIL_LAYOUT_VERSION. */
+uint32_t sedhavil_layout_version(void);
+
+/* ---- Functions of a chain. Each slice is a pointer and its length in elements.
  *
  * samples      left and right in turn; changed
  * positions,   what stages remember beside their lines; changed. Zero is a fresh start
@@ -151,8 +158,10 @@ sedhavil_header sedhavil_wav_header(const uint8_t *bytes, size_t bytes_length, u
 size_t sedhavil_frames_in(const uint8_t *bytes, size_t bytes_length, float *samples, size_t samples_length);
 size_t sedhavil_frames_out(const float *samples, size_t samples_length, uint8_t *bytes, size_t bytes_length);
 
-/* ---- A stage's five words: the kind, then its numbers; words that a kind does not use may hold anything.
- * A level in whole dB is its two's complement, an f32 its bits in the low half, an f64 its bits. */
+/* ---- A stage's twelve words: the kind, then its numbers. A level in whole dB is its two's complement, an f32
+ * its bits in the low half, an f64 its bits. Words that a kind does not use must be 0, else the answer is 102:
+ * so words of another layout are told, unless their zeros happen to stand where this one has its own. The
+ * functions below write all twelve. */
 
 enum {
     SEDHAVIL_VOLUME_CONTROL = 0,
@@ -189,13 +198,11 @@ static inline uint64_t sedhavil_double_word(double x) {
     return bits;
 }
 
+/* the kind and four numbers, and 0 in the words after them */
 static inline void sedhavil_stage_words(uint64_t *stage, uint64_t kind, uint64_t a, uint64_t b, uint64_t c,
                                         uint64_t d) {
-    stage[0] = kind;
-    stage[1] = a;
-    stage[2] = b;
-    stage[3] = c;
-    stage[4] = d;
+    const uint64_t words[SEDHAVIL_WORDS] = {kind, a, b, c, d};
+    memcpy(stage, words, sizeof words);
 }
 
 /* volume: whole dB, at most 24; from -60 down is silence */

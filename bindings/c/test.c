@@ -101,15 +101,20 @@ static void taken(const char *what) {
     check(is(run(), 0, 0) && unchanged(), what);
 }
 
+/* stages of so many words */
+static void wrong_stages(size_t words, const char *what) {
+    fresh(2);
+    c.len_stages = words;
+    c.rate = 0; /* 101 is ranked before 1 */
+    refused(101, 0, what);
+    check(is(start(), 101, 0) && unchanged(), what);
+    check(is(needed(), 101, 0) && unchanged(), what);
+}
+
 static void lengths(void) {
-    for (size_t n = 1; n < SEDHAVIL_WORDS; n++) {
-        fresh(2);
-        c.len_stages = n;
-        c.rate = 0; /* 101 is ranked before 1 */
-        refused(101, 0, "stages of no multiple of 5 words");
-        check(is(start(), 101, 0) && unchanged(), "start: stages of no multiple of 5 words");
-        check(is(needed(), 101, 0) && unchanged(), "floats needed: stages of no multiple of 5 words");
-    }
+    for (size_t n = 1; n < SEDHAVIL_WORDS; n++)
+        wrong_stages(n, "stages of no multiple of 12 words");
+    wrong_stages(2 * 5, "two stages of 5 words");
     for (int longer = 0; longer < 2; longer++) {
         fresh(2);
         c.len_positions += longer ? 1 : (size_t)-1;
@@ -128,72 +133,95 @@ static void lengths(void) {
         refused(101, 3, "progress");
     }
     fresh(2);
-    c.len_stages = 4;
+    c.len_stages = SEDHAVIL_WORDS - 1;
     c.len_positions = c.len_floats = c.len_progress = 0;
     refused(101, 0, "the first wrong length");
-    c.len_stages = 5;
+    c.len_stages = SEDHAVIL_WORDS;
     refused(101, 1, "the first wrong length, stages right");
 }
 
-static void unknown(uint64_t kind, uint64_t a, uint64_t b, uint64_t k, uint64_t d, const char *what) {
-    fresh(3);
+/* the words of the second of three stages are none */
+static void no_stage(const char *what) {
     c.rate = 0; /* 102 is ranked before 1 */
-    sedhavil_stage_words(stage(1), kind, a, b, k, d);
     refused(102, 1, what);
     check(is(start(), 102, 1) && unchanged(), what);
     check(is(needed(), 102, 1) && unchanged(), what);
 }
 
-static void known(uint64_t kind, uint64_t a, uint64_t b, uint64_t k, uint64_t d, const char *what) {
+static void unknown(uint64_t kind, uint64_t a, uint64_t b, uint64_t k, uint64_t d, const char *what) {
+    fresh(3);
+    sedhavil_stage_words(stage(1), kind, a, b, k, d);
+    no_stage(what);
+}
+
+/* a stage of so many words, and none once a word after them is not 0 */
+static void known(size_t used, uint64_t kind, uint64_t a, uint64_t b, uint64_t k, uint64_t d, const char *what) {
     fresh(3);
     sedhavil_stage_words(stage(1), kind, a, b, k, d);
     taken(what);
+    for (size_t i = used; i < SEDHAVIL_WORDS; i++) {
+        fresh(3);
+        sedhavil_stage_words(stage(1), kind, a, b, k, d);
+        stage(1)[i] = UINT64_C(1) << (5 * i);
+        no_stage(what);
+    }
 }
 
 static void words(void) {
     const uint64_t wide = UINT64_C(0x100000000), one = 0x3f800000, g = UINT64_C(0x3ff0000000000000),
-                   any = UINT64_MAX;
+                   all = UINT64_MAX;
     unknown(7, 0, 0, 0, 0, "kind 7");
-    unknown(any, 0, 0, 0, 0, "kind 2^64 - 1");
+    unknown(all, 0, 0, 0, 0, "kind 2^64 - 1");
     unknown(0, UINT64_C(0x80000000), 0, 0, 0, "volume 2^31");
     unknown(0, UINT64_C(0xffffffff7fffffff), 0, 0, 0, "volume -2^31 - 1");
-    known(0, UINT64_C(0xffffffff80000000), any, any, any, "volume -2^31, and words that are not used");
-    known(0, 24, any, any, any, "volume 24");
+    known(2, 0, UINT64_C(0xffffffff80000000), 0, 0, 0, "volume -2^31");
+    known(2, 0, 24, 0, 0, 0, "volume 24");
     unknown(1, wide, 0, 0, 0, "panning with a high half");
-    known(1, one, any, any, any, "panning");
+    known(2, 1, one, 0, 0, 0, "panning");
     unknown(2, 2, 0, 0, 0, "clip 2");
     unknown(2, 0, wide, 0, 0, "drive");
     unknown(2, 0, 0, wide, 0, "distortion's mix");
-    known(2, 1, 0, one, any, "soft clip");
+    known(4, 2, 1, 0, one, 0, "soft clip");
     unknown(3, 4, g, 0, 0, "mode 4");
     unknown(3, 0, g, 0, wide, "filter's mix");
-    known(3, 3, g, 0, one, "notch");
+    known(5, 3, 3, g, 0, one, "notch");
     unknown(4, 3, g, 0, g, "band 3");
     unknown(4, 0, g, wide, g, "gain");
-    known(4, 2, g, UINT64_C(0xffffffffffffffe8), g, "high shelf at -24");
+    known(5, 4, 2, g, UINT64_C(0xffffffffffffffe8), g, "high shelf at -24");
     unknown(5, wide, 0, 0, 0, "feedback");
     unknown(5, 0, wide, 0, 0, "damping");
     unknown(5, 0, 0, wide, 0, "width");
     unknown(5, 0, 0, 0, wide, "reverb's mix");
-    known(5, one, one, one, one, "reverb");
+    known(5, 5, one, one, one, one, "reverb");
     unknown(6, wide, 0, 0, 0, "frames");
     unknown(6, 1, wide, 0, 0, "delay's feedback");
     unknown(6, 1, 0, wide, 0, "delay's mix");
-    known(6, 1, 0, one, 1, "delay that owns one");
+    known(5, 6, 1, 0, one, 1, "delay that owns one");
     /* all stages are looked at, those past the 16th too, and the first is given */
     fresh(20);
     stage(17)[0] = stage(19)[0] = 9;
     refused(102, 17, "the first of two, past the 16th");
+    /* twelve delays of 5 words each are as many words as five stages have */
+    fresh(0);
+    for (size_t i = 0; i < 12; i++) {
+        c.stages[5 * i] = SEDHAVIL_DELAY;
+        c.stages[5 * i + 1] = 1;
+        c.stages[5 * i + 3] = one;
+    }
+    c.len_stages = 12 * 5;
+    refused(102, 0, "twelve delays of 5 words");
 }
 
 /* each kind's words, as the inline functions write them */
 static void written(const uint64_t *w, uint64_t kind, uint64_t a, uint64_t b, uint64_t k, uint64_t d,
                     const char *what) {
-    check(w[0] == kind && w[1] == a && w[2] == b && w[3] == k && w[4] == d, what);
+    const uint64_t words[SEDHAVIL_WORDS] = {kind, a, b, k, d};
+    check(memcmp(w, words, sizeof words) == 0, what);
 }
 
 static void builders(void) {
     uint64_t w[SEDHAVIL_WORDS];
+    memset(w, 0xff, sizeof w);
     sedhavil_stage_volume_control(w, -6);
     written(w, 0, UINT64_MAX - 5, 0, 0, 0, "volume's words");
     sedhavil_stage_panning_control(w, -1.0f);
@@ -396,6 +424,7 @@ static void frames(void) {
 }
 
 int main(void) {
+    check(sedhavil_layout_version() == SEDHAVIL_LAYOUT_VERSION, "the layout's version");
     lengths();
     words();
     builders();

@@ -20,6 +20,8 @@ pub struct WavHeader {
 }
 
 unsafe extern "C" {
+    safe fn sedhavil_layout_version() -> u32;
+
     fn sedhavil_run(
         rate: u32,
         stages: *const u64,
@@ -83,6 +85,10 @@ unsafe extern "C" {
         bytes: *mut u8,
         bytes_length: usize,
     ) -> usize;
+}
+
+pub fn layout_version() -> u32 {
+    sedhavil_layout_version()
 }
 
 #[allow(clippy::too_many_arguments)]

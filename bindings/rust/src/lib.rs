@@ -35,7 +35,7 @@ mod stage;
 pub mod wav;
 
 pub use refusal::Refusal;
-pub use stage::{DistortionKind, EqFilterKind, FilterMode, Stage, g};
+pub use stage::{DistortionKind, EqFilterKind, FilterMode, LAYOUT_VERSION, Stage, WORDS, g};
 
 use refusal::answered;
 
@@ -147,6 +147,12 @@ impl Block<'_> {
         let Memories { positions, floats } = memories;
         answered(face::render(*rate, words, self.samples, positions, floats, store, &mut self.progress))
     }
+}
+
+/// The layout of a stage's words that the linked library reads: [`LAYOUT_VERSION`], unless the library is older
+/// or newer than this crate.
+pub fn layout_version() -> u32 {
+    face::layout_version()
 }
 
 /// How many floats the lines of these stages need: refusals 1 to 4.

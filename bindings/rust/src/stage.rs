@@ -1,6 +1,11 @@
-//! A stage with its settings, and the five words that it is for the face.
+//! A stage with its settings, and the words that it is for the face.
 
 use std::f64::consts::PI;
+
+/// The words of a stage.
+pub const WORDS: usize = 12;
+/// The layout of these words, which goes up with each change of what one means.
+pub const LAYOUT_VERSION: u32 = 1;
 
 #[derive(Clone, Copy, Debug, PartialEq, Eq)]
 pub enum DistortionKind {
@@ -44,26 +49,35 @@ pub enum Stage {
 }
 
 impl Stage {
-    /// The kind, then its numbers: a level in two's complement, a float by its bits.
-    pub fn words(self) -> [u64; 5] {
+    /// The kind, then its numbers: a level in two's complement, a float by its bits. Words that the kind does
+    /// not use are 0.
+    pub fn words(self) -> [u64; WORDS] {
         let level = |decibels: i32| decibels as i64 as u64;
         let single = |x: f32| u64::from(x.to_bits());
         match self {
-            Stage::VolumeControl { volume } => [0, level(volume), 0, 0, 0],
-            Stage::PanningControl { panning } => [1, single(panning), 0, 0, 0],
-            Stage::Distortion { kind, drive, mix } => [2, kind as u64, level(drive), single(mix), 0],
+            Stage::VolumeControl { volume } => padded([0, level(volume)]),
+            Stage::PanningControl { panning } => padded([1, single(panning)]),
+            Stage::Distortion { kind, drive, mix } => padded([2, kind as u64, level(drive), single(mix)]),
             Stage::Filter { mode, g, resonance, mix } => {
-                [3, mode as u64, g.to_bits(), resonance.to_bits(), single(mix)]
+                padded([3, mode as u64, g.to_bits(), resonance.to_bits(), single(mix)])
             }
-            Stage::EqFilter { kind, g, gain, q } => [4, kind as u64, g.to_bits(), level(gain), q.to_bits()],
+            Stage::EqFilter { kind, g, gain, q } => {
+                padded([4, kind as u64, g.to_bits(), level(gain), q.to_bits()])
+            }
             Stage::Reverb { feedback, damping, stereo_width, mix } => {
-                [5, single(feedback), single(damping), single(stereo_width), single(mix)]
+                padded([5, single(feedback), single(damping), single(stereo_width), single(mix)])
             }
             Stage::Delay { frames, feedback, mix, owned } => {
-                [6, u64::from(frames), level(feedback), single(mix), owned as u64]
+                padded([6, u64::from(frames), level(feedback), single(mix), owned as u64])
             }
         }
     }
+}
+
+fn padded<const USED: usize>(used: [u64; USED]) -> [u64; WORDS] {
+    let mut words = [0; WORDS];
+    words[..USED].copy_from_slice(&used);
+    words
 }
 
 pub(crate) fn words_of(stages: &[Stage]) -> Vec<u64> {

@@ -1,7 +1,9 @@
 //! The crate held to document 01: its examples P7 to P9, P12 and P13, its numbers on each side of an edge,
 //! and each refusal by name, number and place, with nothing changed.
 
-use sedhavil::{Chain, DistortionKind, EqFilterKind, FilterMode, Memories, Refusal, Stage, floats_needed, g};
+use sedhavil::{
+    Chain, DistortionKind, EqFilterKind, FilterMode, Memories, Refusal, Stage, WORDS, floats_needed, g,
+};
 
 const UNIT: Stage = Stage::VolumeControl { volume: 0 };
 
@@ -226,22 +228,27 @@ fn starts() {
     }
 }
 
-/// The words are those of the fixed interface.
+/// The words are those of the fixed interface, and 0 after the last that is used.
 #[test]
 fn words() {
+    fn are<const USED: usize>(stage: Stage, used: [u64; USED]) {
+        let words = stage.words();
+        assert_eq!(words[..USED], used);
+        assert_eq!(words[USED..], vec![0; WORDS - USED]);
+    }
     let minus = |n: u64| u64::MAX - (n - 1);
-    assert_eq!(Stage::VolumeControl { volume: -6 }.words(), [0, minus(6), 0, 0, 0]);
-    assert_eq!(Stage::PanningControl { panning: -1.0 }.words(), [1, 0xbf80_0000, 0, 0, 0]);
+    are(Stage::VolumeControl { volume: -6 }, [0, minus(6)]);
+    are(Stage::PanningControl { panning: -1.0 }, [1, 0xbf80_0000]);
     let soft = Stage::Distortion { kind: DistortionKind::SoftClip, drive: 24, mix: 0.5 };
-    assert_eq!(soft.words(), [2, 1, 24, 0x3f00_0000, 0]);
+    are(soft, [2, 1, 24, 0x3f00_0000]);
     let notch = Stage::Filter { mode: FilterMode::Notch, g: 1.0, resonance: 0.5, mix: 1.0 };
-    assert_eq!(notch.words(), [3, 3, 0x3ff0_0000_0000_0000, 0x3fe0_0000_0000_0000, 0x3f80_0000]);
+    are(notch, [3, 3, 0x3ff0_0000_0000_0000, 0x3fe0_0000_0000_0000, 0x3f80_0000]);
     let high = Stage::EqFilter { kind: EqFilterKind::HighShelf, g: 1.0, gain: -24, q: 0.5 };
-    assert_eq!(high.words(), [4, 2, 0x3ff0_0000_0000_0000, minus(24), 0x3fe0_0000_0000_0000]);
+    are(high, [4, 2, 0x3ff0_0000_0000_0000, minus(24), 0x3fe0_0000_0000_0000]);
     let reverb = Stage::Reverb { feedback: 0.5, damping: 0.25, stereo_width: 1.0, mix: -0.0 };
-    assert_eq!(reverb.words(), [5, 0x3f00_0000, 0x3e80_0000, 0x3f80_0000, 0x8000_0000]);
+    are(reverb, [5, 0x3f00_0000, 0x3e80_0000, 0x3f80_0000, 0x8000_0000]);
     let delay = Stage::Delay { frames: 480_000, feedback: -60, mix: 1.0, owned: 15 };
-    assert_eq!(delay.words(), [6, 480_000, minus(60), 0x3f80_0000, 15]);
+    are(delay, [6, 480_000, minus(60), 0x3f80_0000, 15]);
     for (code, mode) in
         [FilterMode::LowPass, FilterMode::BandPass, FilterMode::HighPass].into_iter().enumerate()
     {

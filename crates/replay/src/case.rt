@@ -11,22 +11,28 @@ use crate::put::put_floats;
 use crate::put::put_numbers;
 use crate::put::put_words;
 use crate::units::long;
-use crate::units::number;
 use crate::units::unit;
 use answer::Answer;
 use chain::run::Outcome;
 use chain::run::run;
-use fresh::memories::Memories;
-use fresh::memories::zero;
 use libc::STDIN_FILENO;
-use stage::kind::Stage;
-use words::stages_of;
+use memories::Memories;
+use memories::PLACES;
+use memories::zero;
+use stage::setup::Setup;
+use words::WORDS;
+use words::setup_of;
+
+// The most stages that a case has, which is more than a chain may have.
+const STAGES: usize = 20;
+
+const ALL_WORDS: usize = STAGES * WORDS;
 
 pub(crate) struct Held {
     pub samples: [f32; 8194],
     pub store: [f32; 16384],
     pub memories: Memories,
-    pub progress: [usize; 16],
+    pub progress: [usize; PLACES],
 }
 
 struct Answered {
@@ -79,7 +85,7 @@ fn memories_with(memories: Memories, head: &[u8], body: &[u8], k: usize) -> Memo
     Memories { positions, floats }
 }
 
-fn progress_with(progress: [usize; 16], head: &[u8], body: &[u8], k: usize) -> [usize; 16]
+fn progress_with(progress: [usize; PLACES], head: &[u8], body: &[u8], k: usize) -> [usize; PLACES]
     requires { ⌜ k ≤ 11 ⌝ }
 {
     let mut changed = progress;
@@ -112,15 +118,23 @@ fn at_entry(head: &[u8], body: &[u8]) -> Held {
         samples: [0.0; 8194],
         store: [0.0; 16384],
         memories: zero(),
-        progress: [0; 16],
+        progress: [0; PLACES],
     };
     held_with(silence, head, body, 1)
 }
 
-fn stages(head: &[u8], body: &[u8]) -> [Stage; 16] {
-    let mut words = [0; 80];
+// A chain of so many of the words.
+fn chain_of(rate: u32, words: &[u64], n: usize) -> Setup
+    requires { ⌜ n ≤ length (now words) ⌝ }
+{
+    setup_of(rate, &words[..n])
+}
+
+fn setup(head: &[u8], body: &[u8]) -> Setup {
+    let mut words = [0; ALL_WORDS];
     put_words(body, start(head, 0), start(head, 1), &mut words);
-    stages_of(&words)
+    let stages = least(unit(head, 2), STAGES);
+    chain_of(long(head, 0) as u32, &words, WORDS * stages)
 }
 
 fn order(head: &[u8], body: &[u8]) -> [usize; 256] {
@@ -131,23 +145,20 @@ fn order(head: &[u8], body: &[u8]) -> [usize; 256] {
 
 // The call, on so many of the samples, floats and entries.
 fn call(
-    head: &[u8],
-    stages: [Stage; 16],
+    setup: Setup,
     samples: &mut [f32],
     n: usize,
     memories: Memories,
     store: &mut [f32],
     size: usize,
-    progress: [usize; 16],
+    progress: [usize; PLACES],
     order: &[usize],
     entries: usize,
 ) -> Outcome
     requires { ⌜ (n ≤ 8194) × (size ≤ 16384) × (entries ≤ 256) ⌝ ∗ ⌜ (length (now samples) ≡ 8194) × (length (now store) ≡ 16384) × (length (now order) ≡ 256) ⌝ }
 {
     run(
-        long(head, 0) as u32,
-        stages,
-        number(head, 2),
+        setup,
         &mut samples[..n],
         memories,
         &mut store[..size],
@@ -157,15 +168,14 @@ fn call(
 }
 
 fn perform(head: &[u8], body: &[u8], held: Held) -> Answered {
-    let stages = stages(head, body);
+    let setup = setup(head, body);
     let order = order(head, body);
     let mut samples = held.samples;
     let mut store = held.store;
     let memories = held.memories;
     let progress = held.progress;
     let outcome = call(
-        head,
-        stages,
+        setup,
         &mut samples,
         least(unit(head, 3), 8194),
         memories,

@@ -1,6 +1,6 @@
 // Whether two calls left the same, bit for bit; every NaN counts as one.
 use crate::case::Held;
-use fresh::memories::Memories;
+use memories::Memories;
 
 fn same_memories(a: Memories, b: Memories) -> bool {
     let positions = a.positions;

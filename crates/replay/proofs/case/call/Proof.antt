@@ -7,29 +7,20 @@ use lib.Seq.{length-take-le}
 use Rattle.replay.proofs.case.call.Statement.{statement}
 use Rattle.replay.proofs.case.call.Tie as tie
 
-long-requires : tie.Need-long-requires
-long-requires c κs = search needs
-
-cast-run : tie.Need-cast-run
-cast-run c = search needs
-
-number-requires : tie.Need-number-requires
-number-requires c κs = search needs
-
 slice-relend-prefix-run : tie.Need-slice-relend-prefix-run
 slice-relend-prefix-run c = search needs
 
 slice-aggregate-run : tie.Need-slice-aggregate-run
-slice-aggregate-run c = sym (length-take-le (c .before .before .before .before .before .before .before .args .n) (now (c .before .before .before .before .before .before .before .args .samples)) (omega arith))
+slice-aggregate-run c = sym (length-take-le (c .before .before .before .before .args .n) (now (c .before .before .before .before .args .samples)) (omega arith))
 
 slice-relend-prefix-run-2 : tie.Need-slice-relend-prefix-run-2
 slice-relend-prefix-run-2 c = search needs
 
 slice-aggregate-run-2 : tie.Need-slice-aggregate-run-2
-slice-aggregate-run-2 c = sym (length-take-le (c .before .before .before .before .before .before .before .before .args .size) (now (c .before .before .before .before .before .before .before .before .args .store)) (omega arith))
+slice-aggregate-run-2 c = sym (length-take-le (c .before .before .before .before .before .args .size) (now (c .before .before .before .before .before .args .store)) (omega arith))
 
 slice-aggregate-run-3 : tie.Need-slice-aggregate-run-3
-slice-aggregate-run-3 c = sym (length-take-le (c .before .before .before .before .before .before .before .before .before .args .entries) (now (c .before .before .before .before .before .before .before .before .before .args .order)) (omega arith))
+slice-aggregate-run-3 c = sym (length-take-le (c .before .before .before .before .before .before .args .entries) (now (c .before .before .before .before .before .before .args .order)) (omega arith))
 
 run-requires : tie.Need-run-requires
 run-requires c κs = search needs
@@ -47,9 +38,6 @@ pub call-spec : {M : Type 1} → statement M
 call-spec =
     tie.close
     (tie.spec
-    long-requires
-    cast-run
-    number-requires
     slice-relend-prefix-run
     slice-aggregate-run
     slice-relend-prefix-run-2
