@@ -101,9 +101,10 @@ fn block(
     let answer = outcome.answer;
     let kept = outcome.memories;
     let more = write_block(number(answer), samples, bytes, frames, got < want);
+    let rest = left - want;
     Turn {
         memories: kept,
-        left: left - want,
+        left: rest,
         more,
     }
 }
@@ -158,10 +159,11 @@ fn render_file(head: &[u8], size: u32, setup: Setup, store: &mut [f32]) {
 
 // The same chain at another rate.
 fn at_rate(setup: Setup, rate: u32) -> Setup {
+    let slots = setup.slots;
     Setup {
         rate,
         count: setup.count,
-        slots: setup.slots,
+        slots,
     }
 }
 

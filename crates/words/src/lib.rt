@@ -1,6 +1,6 @@
 // A chain out of words, twelve to a stage, for a caller whose language does not know `Stage`. Any words
 // may be passed in: those that are no stage are found by `first_unknown`. Words that a stage does not use
-// must be 0, so that a host with another layout is told and not misread.
+// must be 0, so that a host with another layout is mostly told and not misread.
 ghost use mathlib.Core.Path.{_≡_};
 ghost use Prim.Native.Nat.{_+_, _*_, _<_};
 ghost use Rattle.rows.specs.First.{firstOf};

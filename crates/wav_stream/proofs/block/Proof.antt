@@ -33,8 +33,8 @@ write-block-requires : tie.Need-write-block-requires
 unfolding wholeFrames
 write-block-requires c κs = (omega (arith, c .before .before .before .before .before .before .before .before .before .before .before .before .before .frames-in .ensures .0), omega (arith, c .before .before .before .before .before .before .before .before .before .before .before .before .before .before .before .before .before .bytes .given))
 
-sub-t32 : tie.Need-sub-t32
-sub-t32 c = search needs
+sub-rest : tie.Need-sub-rest
+sub-rest c = search needs
 
 same-length : tie.Need-same-length
 same-length c = search needs
@@ -60,7 +60,7 @@ block-spec =
     render-block-requires
     number-requires
     write-block-requires
-    sub-t32
+    sub-rest
     same-length
     same-length-2
     same-length-3
