@@ -8,6 +8,7 @@ use Rattle.face.proofs.sedhavil_run as run
 use Rattle.face.proofs.sedhavil_render as render
 use Rattle.face.proofs.sedhavil_start as start
 use Rattle.face.proofs.sedhavil_floats_needed as floats-needed
+use Rattle.face.proofs.sedhavil_layout_version as layout-version
 
 -- what `run` and `render` leave: samples, store, positions, floats and progress
 pub run-single : SingleLent run.Reads.Post (λ κs s. state (now (s .1 .1 .0)) (now (s .1 .1 .1 .1 .1 .0)) (now (s .1 .1 .1 .0)) (now (s .1 .1 .1 .1 .0)) (now (s .1 .1 .1 .1 .1 .1 .0)))
@@ -22,3 +23,6 @@ start-single κs a r r' s s' p q = (p .0 ∙ sym (q .0), p .1 ∙ sym (q .1))
 
 pub floats-needed-single : Single floats-needed.Reads.Post
 floats-needed-single κs a r r' s s' p q = p ∙ sym q
+
+pub layout-version-single : Single layout-version.Reads.Post
+layout-version-single κs a r r' s s' p q = p ∙ sym q

@@ -5,7 +5,7 @@ use Prim.Native.Nat.{ℕ, _%_}
 use lib.Dec.{eqb}
 use lib.ListN.{length}
 use Rattle.rows.specs.Condition.{differ, fails}
-use Rattle.rows.specs.Rows.{Row, row, given, first, firstRow}
+use Rattle.rows.specs.Rows.{Row, row, given, first, firstRow, ByTheTable}
 use Rattle.memories.specs.Sizes.{places, allPositions, allFloats}
 use Rattle.answer.specs.declared.Answer as answers
 use Rattle.answer.specs.Answer.{numberOf, placeOf}
@@ -35,6 +35,12 @@ unfoldable pub faultOf : List ℕ → ℕ → ℕ → ℕ → Answer
 unfolding firstRow
 faultOf words positions floats progress = firstRow (faultRows words positions floats progress) (answer 0 0)
 
+-- the table in plain logic: the first row that applies is given, exactly, and no other
+abbrev pub FaultTabled : Type 0
+FaultTabled =
+    (words : List ℕ) (positions floats progress : ℕ)
+    → ByTheTable (λ a. a .number) (λ a. a .place) (faultRows words positions floats progress) (answer 0 0) (faultOf words positions floats progress)
+
 -- what a call gives that can be read, and what one gives that cannot
 abbrev pub read : {A : Type 0} → Answer → A → A → A
-read fault given else = cond (eqb (fault .number) 0) given else
+read fault taken else = cond (eqb (fault .number) 0) taken else

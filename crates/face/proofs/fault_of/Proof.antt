@@ -1,36 +1,61 @@
--- The tests are the definition's, one after another. Assumes nothing.
-use borrow.Author.Tests.{eq-eqb, ne-eqb}
+-- `fault_of` meets its contract: it tests the table row by row, and at each return the rows before it are past. Assumes nothing.
+use mathlib.Core.Path.{refl, ap, _∙_}
+use mathlib.Core.Bool.{not}
+use Prim.Native.Nat.{ℕ}
 use denote.Ref.{now}
-use Rattle.face.specs.Call.{faultOf}
-use Rattle.face.proofs.Calls.{fault-unknown, fault-none}
+use lib.ListN.{drop}
 use borrow.Author.Needs.{needs}
+use borrow.Author.Tests.{eq-eqb, ne-eqb}
+use Rattle.rows.proofs.Bools.{less-so, less-not}
+use Rattle.rows.proofs.Tested.{Gives, row-hit, row-pass, row-none}
+use Rattle.face.specs.Call.{answer, faultRows, faultOf}
 use Rattle.face.proofs.fault_of.Statement.{statement}
 use Rattle.face.proofs.fault_of.Tie as tie
 
-returns : tie.Need-returns
+-- past the first n rows
+abbrev Past : ℕ → tie.Start → Type 0
+Past n z =
+    let a = z .args in
+    Gives (drop n (faultRows (now (a .stages)) (a .positions) (a .floats) (a .progress))) (answer 0 0) (faultOf (now (a .stages)) (a .positions) (a .floats) (a .progress))
+
+past-none : (z : tie.Start) → Past 0 z
 unfolding faultOf
-returns c = simp (ne-eqb _ _ (c .if1 .taken))
+past-none z = record { same = refl }
+
+returns : tie.Need-returns
+returns c = row-hit (past-none (c .before .before)) (ap not (ne-eqb _ _ (c .if1 .taken)))
+
+past-words : (c : tie.Else1) → Past 1 (c .before .before)
+past-words c = row-pass (past-none (c .before .before)) (ap not (eq-eqb _ _ (c .if1 .left)))
 
 returns-2 : tie.Need-returns-2
-unfolding faultOf
-returns-2 c = simp (eq-eqb _ _ (c .before .if1 .left), ne-eqb _ _ (c .if2 .taken))
+returns-2 c = row-hit (past-words (c .before)) (ap not (ne-eqb _ _ (c .if2 .taken)))
+
+past-positions : (c : tie.Else2) → Past 2 (c .before .before .before)
+past-positions c = row-pass (past-words (c .before)) (ap not (eq-eqb _ _ (c .if2 .left)))
 
 returns-3 : tie.Need-returns-3
-unfolding faultOf
-returns-3 c = simp (eq-eqb _ _ (c .before .before .if1 .left), eq-eqb _ _ (c .before .if2 .left), ne-eqb _ _ (c .if3 .taken))
+returns-3 c = row-hit (past-positions (c .before)) (ap not (ne-eqb _ _ (c .if3 .taken)))
+
+past-floats : (c : tie.Else3) → Past 3 (c .before .before .before .before)
+past-floats c = row-pass (past-positions (c .before)) (ap not (eq-eqb _ _ (c .if3 .left)))
 
 returns-4 : tie.Need-returns-4
-unfolding faultOf
-returns-4 c = simp (eq-eqb _ _ (c .before .before .before .if1 .left), eq-eqb _ _ (c .before .before .if2 .left), eq-eqb _ _ (c .before .if3 .left), ne-eqb _ _ (c .if4 .taken))
+returns-4 c = row-hit (past-floats (c .before)) (ap not (ne-eqb _ _ (c .if4 .taken)))
+
+past-progress : (c : tie.Else4) → Past 4 (c .before .before .before .before .before)
+past-progress c = row-pass (past-floats (c .before)) (ap not (eq-eqb _ _ (c .if4 .left)))
 
 first-unknown-requires : tie.Need-first-unknown-requires
 first-unknown-requires c κs = search needs
 
 returns-5 : tie.Need-returns-5
-returns-5 c = fault-unknown (now (c .before .before .before .before .before .before .before .args .stages)) (c .before .before .before .before .before .before .before .args .positions) (c .before .before .before .before .before .before .before .args .floats) (c .before .before .before .before .before .before .before .args .progress) (c .before .before .before .before .before .if1 .left) (c .before .before .before .before .if2 .left) (c .before .before .before .if3 .left) (c .before .before .if4 .left) _ (c .before .first-unknown .ensures) (c .if5 .taken)
+returns-5 c =
+    let unknown = c .before .first-unknown .ensures in
+    ap (answer 102) unknown ∙ row-hit (past-progress (c .before .before)) (less-so unknown refl (c .if5 .taken))
 
 returns-6 : tie.Need-returns-6
-returns-6 c = fault-none (now (c .before .before .before .before .before .before .before .args .stages)) (c .before .before .before .before .before .before .before .args .positions) (c .before .before .before .before .before .before .before .args .floats) (c .before .before .before .before .before .before .before .args .progress) (c .before .before .before .before .before .if1 .left) (c .before .before .before .before .if2 .left) (c .before .before .before .if3 .left) (c .before .before .if4 .left) _ (c .before .first-unknown .ensures) (c .if5 .left)
+returns-6 c = row-none (row-pass (past-progress (c .before .before)) (less-not (c .before .first-unknown .ensures) refl (c .if5 .left)))
 
 pub fault-of-spec : {M : Type 1} → statement M
 fault-of-spec =

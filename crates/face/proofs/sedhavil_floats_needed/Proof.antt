@@ -1,12 +1,8 @@
 -- A call that cannot be read is refused; of any other, what `check_chain` promises of a store of no floats. Assumes nothing.
-use mathlib.Core.Path.{refl, ap, _∙_}
-use Prim.Native.Nat.{ℕ}
-use denote.Ref.{now}
-use Rattle.refuse.specs.Refusals.{chainAnswer}
-use Rattle.words.specs.Words.{countOf}
-use Rattle.face.specs.Face.{roomOut, neededAnswer}
-use Rattle.face.proofs.Calls.{refused, taken}
+use mathlib.Core.Path.{sym, _∙_}
 use borrow.Author.Needs.{needs}
+use Rattle.face.specs.Face.{neededAnswer}
+use Rattle.face.proofs.Calls.{refused, taken}
 use Rattle.face.proofs.sedhavil_floats_needed.Statement.{statement}
 use Rattle.face.proofs.sedhavil_floats_needed.Tie as tie
 
@@ -15,10 +11,13 @@ fault-of-requires c κs = search needs
 
 returns : tie.Need-returns
 unfolding neededAnswer
-returns c = c .before .before .fault-of .ensures ∙ refused _ _ (c .before .before .fault-of .ensures) _ _ (c .if1 .taken)
+returns c = c .before .before .fault-of .ensures ∙ sym (refused (c .before .before .fault-of .ensures) _ _ (c .if1 .taken))
 
-stages-of-requires : tie.Need-stages-of-requires
-stages-of-requires c κs = search needs
+setup-of-requires : tie.Need-setup-of-requires
+setup-of-requires c κs = search needs
+
+needed-requires : tie.Need-needed-requires
+needed-requires c κs = search needs
 
 check-chain-requires : tie.Need-check-chain-requires
 check-chain-requires c κs = search needs
@@ -28,7 +27,9 @@ room-out-requires c κs = search needs
 
 returns-2 : tie.Need-returns-2
 unfolding neededAnswer
-returns-2 c = taken _ _ (c .before .before .before .before .before .fault-of .ensures) (λ l (floats : ℕ). roomOut (chainAnswer (c .before .before .before .before .before .before .before .args .rate) l (countOf (now (c .before .before .before .before .before .before .before .args .stages))) floats)) _ _ (c .before .before .before .if1 .left) (c .before .before .stages-of .ensures) refl (c .room-out .ensures ∙ ap roomOut (c .before .check-chain .ensures))
+returns-2 c =
+    let passed = c .before .before .before .before in
+    rw (taken (passed .before .before .fault-of .ensures) _ _ (passed .if1 .left)) (cc)
 
 pub sedhavil-floats-needed-spec : {M : Type 1} → statement M
 sedhavil-floats-needed-spec =
@@ -36,7 +37,8 @@ sedhavil-floats-needed-spec =
     (tie.spec
     fault-of-requires
     returns
-    stages-of-requires
+    setup-of-requires
+    needed-requires
     check-chain-requires
     room-out-requires
     returns-2)

@@ -1,11 +1,10 @@
--- A call that cannot be read is refused; of any other, what `render` promises, of the stages that the words are and of the arrays that hold what was lent. Assumes nothing.
+-- A call that cannot be read is refused; of any other, what `render` promises, of the chain that the words are and of the arrays that hold what was lent. Assumes nothing.
 use mathlib.Core.List.{[]}
 use denote.Ref.{now}
+use borrow.Author.Needs.{needs}
 use Rattle.chain.specs.Run.{answerOn, renderedOf}
-use Rattle.words.specs.Words.{countOf}
 use Rattle.face.specs.Face.{renderAnswer, renderLeft}
 use Rattle.face.proofs.Calls.{refused-both, block-taken}
-use borrow.Author.Needs.{needs}
 use Rattle.face.proofs.sedhavil_render.Statement.{statement}
 use Rattle.face.proofs.sedhavil_render.Tie as tie
 
@@ -14,10 +13,10 @@ fault-of-requires c κs = search needs
 
 returns : tie.Need-returns
 unfolding renderAnswer renderLeft
-returns c = refused-both _ _ (c .before .before .fault-of .ensures) _ _ _ (c .if1 .taken)
+returns c = refused-both (c .before .before .fault-of .ensures) _ _ _ (c .if1 .taken)
 
-stages-of-requires : tie.Need-stages-of-requires
-stages-of-requires c κs = search needs
+setup-of-requires : tie.Need-setup-of-requires
+setup-of-requires c κs = search needs
 
 gathered-requires : tie.Need-gathered-requires
 gathered-requires c κs = search needs
@@ -49,11 +48,18 @@ same-length-5 c = search needs
 returns-2 : tie.Need-returns-2
 unfolding renderAnswer renderLeft
 returns-2 c =
-    let a = c .before .before .before .before .before .before .before .before .before .before .before .before .before .before .before .before .before .before .before .before .before .before .before .before .before .before .before .before .before .before .before .before .args in
-    block-taken (now (a .stages)) (now (a .samples)) (now (a .store)) (now (a .positions)) (now (a .floats)) (now (a .progress)) (c .before .before .before .before .before .before .before .before .before .before .before .before .before .before .before .before .before .before .before .before .before .before .before .before .before .fault-of .result) (c .before .before .before .before .before .before .before .before .before .before .before .before .before .before .before .before .before .before .before .before .before .before .before .before .before .fault-of .ensures) (c .before .before .before .before .before .before .before .before .before .before .before .before .before .before .before .before .before .before .before .before .before .before .before .if1 .left)
-    (λ l s. answerOn (a .rate) l (countOf (now (a .stages))) s [])
-    (λ l s. renderedOf (a .rate) l (countOf (now (a .stages))) s)
-    (c .before .before .before .before .before .before .before .before .before .before .before .before .before .before .before .before .before .before .before .before .before .before .stages-of .ensures) (c .before .before .before .before .before .before .before .before .before .before .before .before .before .before .before .before .before .before .gathered .ensures) (c .before .before .before .before .before .before .before .before .before .before .before .before .before .before .before .progress-of .ensures) (c .before .before .before .before .before .before .before .before .before .before .before .before .before .before .render .ensures .0) _ _ (c .before .before .before .before .before .before .before .before .before .before .before .before .before .before .render .ensures .1) (c .before .before .before .before .before .before .hand-back .ensures)
+    let back = c .before .before .before .before .before .before in
+    let ran = back .before .before .before .before .before .before .before .before in
+    let got = ran .before in
+    let gathered = got .before .before .before in
+    let made = gathered .before .before .before .before in
+    let passed = made .before in
+    let asked = passed .before .before in
+    let a = asked .before .before .before .before .before .before .before .args in
+    block-taken (now (a .stages)) (now (a .samples)) (now (a .store)) (now (a .positions)) (now (a .floats)) (now (a .progress)) (asked .fault-of .ensures) (passed .if1 .left)
+    (λ setup s. answerOn setup s [])
+    (renderedOf)
+    (made .setup-of .ensures) (gathered .gathered .ensures) (got .progress-of .ensures) _ _ (ran .render .ensures) (back .hand-back .ensures)
 
 pub sedhavil-render-spec : {M : Type 1} → statement M
 sedhavil-render-spec =
@@ -61,7 +67,7 @@ sedhavil-render-spec =
     (tie.spec
     fault-of-requires
     returns
-    stages-of-requires
+    setup-of-requires
     gathered-requires
     progress-of-requires
     render-requires

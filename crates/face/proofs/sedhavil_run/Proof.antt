@@ -1,10 +1,9 @@
--- A call that cannot be read is refused; of any other, what `run` promises, of the stages that the words are and of the arrays that hold what was lent. Assumes nothing.
+-- A call that cannot be read is refused; of any other, what `run` promises, of the chain that the words are and of the arrays that hold what was lent. Assumes nothing.
 use denote.Ref.{now}
+use borrow.Author.Needs.{needs}
 use Rattle.chain.specs.Run.{answerOn, leftOf}
-use Rattle.words.specs.Words.{countOf}
 use Rattle.face.specs.Face.{runAnswer, runLeft}
 use Rattle.face.proofs.Calls.{refused-both, block-taken}
-use borrow.Author.Needs.{needs}
 use Rattle.face.proofs.sedhavil_run.Statement.{statement}
 use Rattle.face.proofs.sedhavil_run.Tie as tie
 
@@ -13,10 +12,10 @@ fault-of-requires c κs = search needs
 
 returns : tie.Need-returns
 unfolding runAnswer runLeft
-returns c = refused-both _ _ (c .before .before .fault-of .ensures) _ _ _ (c .if1 .taken)
+returns c = refused-both (c .before .before .fault-of .ensures) _ _ _ (c .if1 .taken)
 
-stages-of-requires : tie.Need-stages-of-requires
-stages-of-requires c κs = search needs
+setup-of-requires : tie.Need-setup-of-requires
+setup-of-requires c κs = search needs
 
 gathered-requires : tie.Need-gathered-requires
 gathered-requires c κs = search needs
@@ -48,11 +47,18 @@ same-length-5 c = search needs
 returns-2 : tie.Need-returns-2
 unfolding runAnswer runLeft
 returns-2 c =
-    let a = c .before .before .before .before .before .before .before .before .before .before .before .before .before .before .before .before .before .before .before .before .before .before .before .before .before .before .before .before .before .before .before .before .before .args in
-    block-taken (now (a .stages)) (now (a .samples)) (now (a .store)) (now (a .positions)) (now (a .floats)) (now (a .progress)) (c .before .before .before .before .before .before .before .before .before .before .before .before .before .before .before .before .before .before .before .before .before .before .before .before .before .fault-of .result) (c .before .before .before .before .before .before .before .before .before .before .before .before .before .before .before .before .before .before .before .before .before .before .before .before .before .fault-of .ensures) (c .before .before .before .before .before .before .before .before .before .before .before .before .before .before .before .before .before .before .before .before .before .before .before .if1 .left)
-    (λ l s. answerOn (a .rate) l (countOf (now (a .stages))) s (now (a .order)))
-    (λ l s. leftOf (a .rate) l (countOf (now (a .stages))) s (now (a .order)))
-    (c .before .before .before .before .before .before .before .before .before .before .before .before .before .before .before .before .before .before .before .before .before .before .stages-of .ensures) (c .before .before .before .before .before .before .before .before .before .before .before .before .before .before .before .before .before .before .gathered .ensures) (c .before .before .before .before .before .before .before .before .before .before .before .before .before .before .before .progress-of .ensures) (c .before .before .before .before .before .before .before .before .before .before .before .before .before .before .run .ensures .0) _ _ (c .before .before .before .before .before .before .before .before .before .before .before .before .before .before .run .ensures .1) (c .before .before .before .before .before .before .hand-back .ensures)
+    let back = c .before .before .before .before .before .before in
+    let ran = back .before .before .before .before .before .before .before .before in
+    let got = ran .before in
+    let gathered = got .before .before .before in
+    let made = gathered .before .before .before .before in
+    let passed = made .before in
+    let asked = passed .before .before in
+    let a = asked .before .before .before .before .before .before .before .before .args in
+    block-taken (now (a .stages)) (now (a .samples)) (now (a .store)) (now (a .positions)) (now (a .floats)) (now (a .progress)) (asked .fault-of .ensures) (passed .if1 .left)
+    (λ setup s. answerOn setup s (now (a .order)))
+    (λ setup s. leftOf setup s (now (a .order)))
+    (made .setup-of .ensures) (gathered .gathered .ensures) (got .progress-of .ensures) _ _ (ran .run .ensures) (back .hand-back .ensures)
 
 pub sedhavil-run-spec : {M : Type 1} → statement M
 sedhavil-run-spec =
@@ -60,7 +66,7 @@ sedhavil-run-spec =
     (tie.spec
     fault-of-requires
     returns
-    stages-of-requires
+    setup-of-requires
     gathered-requires
     progress-of-requires
     run-requires

@@ -1,4 +1,4 @@
--- The copy's promise, of an array of 16. Assumes nothing.
+-- The copy's promise, of an array with a number for each place. Assumes nothing.
 use mathlib.Core.Path.{sym}
 use borrow.Author.Needs.{needs}
 use Rattle.face.proofs.slices.progress_of.Statement.{statement}
