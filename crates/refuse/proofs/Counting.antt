@@ -23,7 +23,7 @@ use Rattle.refuse.specs.Entries.{noStage, atEnd, level, entryRows, ruleN
 
 -- a stage that may be run has a frame left
 pub kept-room : (tops frames : ℕ) (progress : List ℕ) (k : ℕ) → ruleNumber (ruleOf tops frames progress k) ≡ 0 → getD progress k 0 < frames
-unfolding ruleNumber ruleOf
+unfolding ruleOf
 kept-room tops frames progress k e = lt-of-not-le (no-row ruleNumber (λ rule. 0) Kept (entryRows tops frames progress k) (omega arith) e .1 .0)
 
 module _ (tops frames : ℕ) (progress order : List ℕ) where

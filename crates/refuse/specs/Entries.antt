@@ -10,7 +10,7 @@ use Rattle.refuse.specs.declared.entries.Rule.{Rule}
 use Rattle.refuse.specs.declared.entries.Rule.the-variants.{Kept, NoStage, AtEnd, Level}
 
 -- the number with which an entry is refused that breaks the rule; 0 where it breaks none
-unfoldable pub ruleNumber : Rule → ℕ
+abbrev pub ruleNumber : Rule → ℕ
 ruleNumber Kept = 0
 ruleNumber NoStage = 11
 ruleNumber AtEnd = 11

@@ -5,5 +5,5 @@ use Rattle.rows.proofs.Tables.{by-the-table}
 use Rattle.wav_header.specs.Header.{headerNumber, headerOf, HeaderTabled}
 
 pub header-tabled : HeaderTabled
-unfolding headerNumber headerOf
+unfolding headerOf
 header-tabled bytes most = by-the-table (omega arith) refl

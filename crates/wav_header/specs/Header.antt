@@ -10,7 +10,7 @@ use Rattle.wav_header.specs.declared.Header.the-variants.{Read, Names, F
 use Rattle.wav_bytes.specs.Bytes.{twoAt, fourAt}
 
 -- document 01's number; 0 for a header that is read
-unfoldable pub headerNumber : Header → ℕ
+abbrev pub headerNumber : Header → ℕ
 headerNumber (Read rate size) = 0
 headerNumber Names = 21
 headerNumber Format = 22
