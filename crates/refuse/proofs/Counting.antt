@@ -35,7 +35,7 @@ module _ (tops frames : ℕ) (progress order : List ℕ) where
   test i = decide (stuck tops frames progress order i)
 
   pub stuck-numbered : (i : ℕ) → test i ≡ not (eqb (ruleNumber (ruleOf tops frames (at i) (getD order i 0))) 0)
-  unfolding stuck ruleOf ruleNumber firstRow
+  unfolding stuck ruleOf firstRow
   stuck-numbered i = let k = getD order i 0 in go (decide (noStage tops k)) (decide (atEnd frames (at i) k)) (decide (level (at i) k))
     where
       go : (a b c : Bool) → (a || b || c) ≡ not (eqb (ruleNumber (cond a NoStage (cond b AtEnd (cond c Level Kept)))) 0)
