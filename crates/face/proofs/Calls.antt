@@ -49,16 +49,17 @@ refused-both {fault} e a x y h = (e ∙ sym (refused e a fault h), sym (refused 
 
 -- ---- a call on a block that can be read: its memories and progress were gathered from what was lent, and what it left of them was handed back there
 module _ (words : List ℕ) (xs st : List Float) (p : List ℕ) (f : List Float) (g : List ℕ) where
-  pub block-taken : {fault : Answer} → fault ≡ blockFault words (state xs st p f g) → fault .number ≡ 0
+  abbrev lent : State Float Held
+  lent = state xs st p f g
+
+  pub block-taken : {fault : Answer} → fault ≡ blockFault words lent → fault .number ≡ 0
       → (answering : Setup → State Float Held → answers.Answer) (leaving : Setup → State Float Held → State Float Held)
       {setup setup' : Setup} → setup ≡ setup'
       → {p₁ : List ℕ} {f₁ : List Float} {g₁ : List ℕ} → (length p ≡ allPositions → p₁ ≡ p) × (length f ≡ allFloats → f₁ ≡ f) → (length g ≡ places → g₁ ≡ g)
-      → {a : answers.Answer} (xs' st' : List Float) {p₂ : List ℕ} {f₂ : List Float} {g₂ : List ℕ} → (a ≡ answering setup (state xs st p₁ f₁ g₁)) × (state xs' st' p₂ f₂ g₂ ≡ leaving setup (state xs st p₁ f₁ g₁))
-      → {r : Answer} {p₃ : List ℕ} {f₃ : List Float} {g₃ : List ℕ}
-      → (r ≡ answerOut a) × (length p ≡ allPositions → p₃ ≡ p₂) × (length f ≡ allFloats → f₃ ≡ f₂) × (length g ≡ places → g₃ ≡ g₂)
-      → (r ≡ read (blockFault words (state xs st p f g)) (answerOut (answering setup' (state xs st p f g))) (blockFault words (state xs st p f g)))
-      × (state xs' st' p₃ f₃ g₃ ≡ read (blockFault words (state xs st p f g)) (leaving setup' (state xs st p f g)) (state xs st p f g))
-  block-taken e h answering leaving same gathered got xs' st' made back =
+      → {a : answers.Answer} {xs' st' f₂ : List Float} {p₂ g₂ : List ℕ} → (a ≡ answering setup (state xs st p₁ f₁ g₁)) × (state xs' st' p₂ f₂ g₂ ≡ leaving setup (state xs st p₁ f₁ g₁))
+      → {r : Answer} {p₃ g₃ : List ℕ} {f₃ : List Float} → (r ≡ answerOut a) × (length p ≡ allPositions → p₃ ≡ p₂) × (length f ≡ allFloats → f₃ ≡ f₂) × (length g ≡ places → g₃ ≡ g₂)
+      → (r ≡ read (blockFault words lent) (answerOut (answering setup' lent)) (blockFault words lent)) × (state xs' st' p₃ f₃ g₃ ≡ read (blockFault words lent) (leaving setup' lent) lent)
+  block-taken e h answering leaving same gathered got made back =
       let z = sized words e h in
       let p-in = gathered .0 (z .positions-all) in
       let f-in = gathered .1 (z .floats-all) in
@@ -66,4 +67,4 @@ module _ (words : List ℕ) (xs st : List Float) (p : List ℕ) (f : List Float)
       let p-out = back .1 (z .positions-all) in
       let f-out = back .2 (z .floats-all) in
       let g-out = back .3 (z .progress-all) in
-      (rw (taken e _ _ h, back .0, made .0, same, p-in, f-in, g-in), rw (taken e _ _ h, p-out, f-out, g-out, made .1, same, p-in, f-in, g-in))
+      (rw (taken e _ _ h) (cc), rw (taken e _ _ h) (cc))

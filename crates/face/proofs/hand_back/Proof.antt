@@ -26,7 +26,9 @@ same-length-3 : tie.Need-same-length-3
 same-length-3 c = search needs
 
 returns : tie.Need-returns
-returns c = (c .answer-out .ensures, c .before .before .before .before .before .before .before .before .before .before .scatter .ensures .0, c .before .before .before .before .before .before .before .before .before .before .scatter .ensures .1, λ e. c .before .before .before .copy-numbers .ensures (e ∙ sym (search needs)))
+returns c =
+    let both = c .before .before .before .before .before .before .before .before .before .before .scatter .ensures in
+    (c .answer-out .ensures, both .0, both .1, λ e. c .before .before .before .copy-numbers .ensures (e ∙ sym (search needs)))
 
 pub hand-back-spec : {M : Type 1} → statement M
 hand-back-spec =

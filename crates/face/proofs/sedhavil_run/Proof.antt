@@ -58,7 +58,7 @@ returns-2 c =
     block-taken (now (a .stages)) (now (a .samples)) (now (a .store)) (now (a .positions)) (now (a .floats)) (now (a .progress)) (asked .fault-of .ensures) (passed .if1 .left)
     (λ setup s. answerOn setup s (now (a .order)))
     (λ setup s. leftOf setup s (now (a .order)))
-    (made .setup-of .ensures) (gathered .gathered .ensures) (got .progress-of .ensures) _ _ (ran .run .ensures) (back .hand-back .ensures)
+    (made .setup-of .ensures) (gathered .gathered .ensures) (got .progress-of .ensures) (ran .run .ensures) (back .hand-back .ensures)
 
 pub sedhavil-run-spec : {M : Type 1} → statement M
 sedhavil-run-spec =

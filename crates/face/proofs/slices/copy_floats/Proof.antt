@@ -39,13 +39,19 @@ loop-less : tie.Need-loop-less Inv-loop μ-loop
 loop-less c = omega arith
 
 loop-again : tie.Need-loop-again Inv-loop μ-loop
-loop-again c = copied-more nan (now (c .before .before .before .before .args .from)) (now (c .before .before .before .before .args .to)) (c .before .before .loop .to) (c .before .before .loop .i) (omega arith) (c .before .before .loop .inv)
+loop-again c =
+    let at = c .before .before in
+    let a = at .before .before .args in
+    copied-more nan (now (a .from)) (now (a .to)) (at .loop .to) (at .loop .i) (omega arith) (at .loop .inv)
 
 same-length : tie.Need-same-length Inv-loop μ-loop
 same-length c = c .before .loop .inv .1
 
 returns-2 : tie.Need-returns-2 Inv-loop μ-loop
-returns-2 c = λ e. copied-all nan (now (c .before .before .before .args .from)) (now (c .before .before .before .args .to)) (c .before .loop .to) (c .before .loop .i) (omega arith) (c .before .loop .inv)
+returns-2 c =
+    let a = c .before .before .before .args in
+    let done = c .before .loop in
+    λ e. copied-all nan (now (a .from)) (now (a .to)) (done .to) (done .i) (omega arith) (done .inv)
 
 pub copy-floats-spec : {M : Type 1} → statement M
 copy-floats-spec =

@@ -23,7 +23,9 @@ same-length-2 : tie.Need-same-length-2
 same-length-2 c = search needs
 
 returns : tie.Need-returns
-returns c = (λ e. c .before .before .before .before .before .before .before .copy-numbers .ensures (e ∙ sym (search needs)), λ e. c .before .before .copy-floats .ensures (e ∙ sym (search needs)))
+returns c =
+    let floats = c .before .before in
+    (λ e. floats .before .before .before .before .before .copy-numbers .ensures (e ∙ sym (search needs)), λ e. floats .copy-floats .ensures (e ∙ sym (search needs)))
 
 pub scatter-spec : {M : Type 1} → statement M
 scatter-spec =
