@@ -26,9 +26,6 @@ whole-between-requires c κs = search needs
 is-finite-f32-requires-2 : tie.Need-is-finite-f32-requires-2
 is-finite-f32-requires-2 c κs = search needs
 
-both-requires : tie.Need-both-requires
-both-requires c κs = search needs
-
 enum-known-stage-4 : tie.Need-enum-known-stage-4
 enum-known-stage-4 c = search needs
 
@@ -38,14 +35,8 @@ is-tangent-requires c κs = search needs
 is-finite-f64-requires : tie.Need-is-finite-f64-requires
 is-finite-f64-requires c κs = search needs
 
-both-requires-2 : tie.Need-both-requires-2
-both-requires-2 c κs = search needs
-
 is-finite-f32-requires-3 : tie.Need-is-finite-f32-requires-3
 is-finite-f32-requires-3 c κs = search needs
-
-both-requires-3 : tie.Need-both-requires-3
-both-requires-3 c κs = search needs
 
 enum-known-stage-5 : tie.Need-enum-known-stage-5
 enum-known-stage-5 c = search needs
@@ -56,15 +47,6 @@ is-tangent-requires-2 c κs = search needs
 whole-between-requires-2 : tie.Need-whole-between-requires-2
 whole-between-requires-2 c κs = search needs
 
-both-requires-4 : tie.Need-both-requires-4
-both-requires-4 c κs = search needs
-
-both-requires-5 : tie.Need-both-requires-5
-both-requires-5 c κs = search needs
-
-both-requires-6 : tie.Need-both-requires-6
-both-requires-6 c κs = search needs
-
 enum-known-stage-6 : tie.Need-enum-known-stage-6
 enum-known-stage-6 c = search needs
 
@@ -74,20 +56,11 @@ is-unit-requires c κs = search needs
 is-unit-requires-2 : tie.Need-is-unit-requires-2
 is-unit-requires-2 c κs = search needs
 
-both-requires-7 : tie.Need-both-requires-7
-both-requires-7 c κs = search needs
-
 is-unit-requires-3 : tie.Need-is-unit-requires-3
 is-unit-requires-3 c κs = search needs
 
-both-requires-8 : tie.Need-both-requires-8
-both-requires-8 c κs = search needs
-
 is-finite-f32-requires-4 : tie.Need-is-finite-f32-requires-4
 is-finite-f32-requires-4 c κs = search needs
-
-both-requires-9 : tie.Need-both-requires-9
-both-requires-9 c κs = search needs
 
 enum-known-stage-7 : tie.Need-enum-known-stage-7
 enum-known-stage-7 c = search needs
@@ -105,19 +78,19 @@ returns-2 c = rw (c .is-finite-f32 .ensures, c .before .before .stage2 .given .1
 
 returns-3 : tie.Need-returns-3
 unfolding inRangeOf
-returns-3 c = rw (c .both .ensures, c .before .is-finite-f322 .ensures, c .before .before .whole-between .ensures, c .before .before .before .before .stage3 .given .1, toZ-ofZ w32 (c .before .before .before .before .stage3 .given .0 .1 .0) record { sfits = c .before .before .before .known-told3 .given .1 .0 .1 })
+returns-3 c = rw (c .is-finite-f322 .ensures, c .before .whole-between .ensures, c .before .before .before .stage3 .given .1, toZ-ofZ w32 (c .before .before .before .stage3 .given .0 .1 .0) record { sfits = c .before .before .known-told3 .given .1 .0 .1 })
 
 returns-4 : tie.Need-returns-4
 unfolding inRangeOf
-returns-4 c = rw (c .both3 .ensures, c .before .is-finite-f323 .ensures, c .before .before .both2 .ensures, c .before .before .before .is-finite-f64 .ensures, c .before .before .before .before .is-tangent .ensures, c .before .before .before .before .before .before .stage4 .given .1)
+returns-4 c = rw (c .is-finite-f323 .ensures, c .before .is-finite-f64 .ensures, c .before .before .is-tangent .ensures, c .before .before .before .before .stage4 .given .1)
 
 returns-5 : tie.Need-returns-5
 unfolding inRangeOf literal round ofBits
-returns-5 c = rw (c .both6 .ensures, c .before .both5 .ensures, c .before .before .both4 .ensures, c .before .before .before .whole-between2 .ensures, c .before .before .before .before .is-tangent2 .ensures, c .before .before .before .before .before .before .stage5 .given .1, toZ-ofZ w32 (c .before .before .before .before .before .before .stage5 .given .0 .1 .1 .0) record { sfits = c .before .before .before .before .before .known-told5 .given .1 .1 .0 .1 })
+returns-5 c = rw (c .whole-between2 .ensures, c .before .is-tangent2 .ensures, c .before .before .before .stage5 .given .1, toZ-ofZ w32 (c .before .before .before .stage5 .given .0 .1 .1 .0) record { sfits = c .before .before .known-told5 .given .1 .1 .0 .1 })
 
 returns-6 : tie.Need-returns-6
 unfolding inRangeOf
-returns-6 c = rw (c .both9 .ensures, c .before .is-finite-f324 .ensures, c .before .before .both8 .ensures, c .before .before .before .is-unit3 .ensures, c .before .before .before .before .both7 .ensures, c .before .before .before .before .before .is-unit2 .ensures, c .before .before .before .before .before .before .is-unit .ensures, c .before .before .before .before .before .before .before .before .stage6 .given .1)
+returns-6 c = rw (c .is-finite-f324 .ensures, c .before .is-unit3 .ensures, c .before .before .is-unit2 .ensures, c .before .before .before .is-unit .ensures, c .before .before .before .before .before .stage6 .given .1)
 
 returns-7 : tie.Need-returns-7
 unfolding inRangeOf
@@ -133,27 +106,18 @@ in-range-spec =
     enum-known-stage-3
     whole-between-requires
     is-finite-f32-requires-2
-    both-requires
     enum-known-stage-4
     is-tangent-requires
     is-finite-f64-requires
-    both-requires-2
     is-finite-f32-requires-3
-    both-requires-3
     enum-known-stage-5
     is-tangent-requires-2
     whole-between-requires-2
-    both-requires-4
-    both-requires-5
-    both-requires-6
     enum-known-stage-6
     is-unit-requires
     is-unit-requires-2
-    both-requires-7
     is-unit-requires-3
-    both-requires-8
     is-finite-f32-requires-4
-    both-requires-9
     enum-known-stage-7
     delay-in-range-requires
     returns
