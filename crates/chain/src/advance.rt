@@ -1,7 +1,7 @@
 // Steps of top stages on a block that was accepted, one after another.
 ghost use mathlib.Core.Path.{_≡_};
 ghost use mathlib.Core.Bool.{cond};
-ghost use Prim.Native.Nat.{_-_, _≤_, _<_};
+ghost use Prim.Native.Nat.{_-_, _<_};
 ghost use lib.ListN.{getD, replicate};
 ghost use Rattle.stage.specs.Layout.{startsOf};
 ghost use Rattle.tops.specs.Tops.{topsOf, topsRecord};

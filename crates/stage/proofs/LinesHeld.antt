@@ -1,14 +1,14 @@
 -- What the lines that a stage holds say of their floats, and of positions on them. Assumes nothing.
-use mathlib.Core.Path.{_≡_, refl, ap, sym, _∙_}
+use mathlib.Core.Path.{_≡_, refl, ap, sym}
 use mathlib.Core.Bool.{Bool, true, false, cond}
 use mathlib.Core.List.{List}
-use Prim.Native.Nat.{ℕ, _+_, _*_}
+use Prim.Native.Nat.{ℕ, _*_}
 use native.Mathlib.Omega.{arith}
 use lib.Dec.{leb, ltb}
 use lib.ListN.{getD}
 use Rattle.rows.specs.First.{firstFrom}
 use Rattle.rows.specs.Condition.{decide}
-use Rattle.tuning.specs.Tuning.{reverbLines, total, reverbFloats}
+use Rattle.tuning.specs.Tuning.{reverbLines, reverbFloats}
 use Rattle.tuning.proofs.Tunings.{floats-are}
 use Rattle.stage.specs.declared.kind.Stage.{Stage}
 use Rattle.stage.specs.declared.kind.Lines.the-variants.{NoLines, ReverbLines, FrameLine}

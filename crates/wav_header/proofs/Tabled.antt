@@ -2,7 +2,7 @@
 use mathlib.Core.Path.{refl}
 use native.Mathlib.Omega.{arith}
 use Rattle.rows.proofs.Tables.{by-the-table}
-use Rattle.wav_header.specs.Header.{headerNumber, headerOf, HeaderTabled}
+use Rattle.wav_header.specs.Header.{headerOf, HeaderTabled}
 
 pub header-tabled : HeaderTabled
 unfolding headerOf
