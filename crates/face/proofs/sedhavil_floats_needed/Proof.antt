@@ -28,8 +28,9 @@ room-out-requires c κs = search needs
 returns-2 : tie.Need-returns-2
 unfolding neededAnswer
 returns-2 c =
-    let passed = c .before .before .before .before in
-    rw (taken (passed .before .before .fault-of .ensures) _ _ (passed .if1 .left)) (cc)
+    let made = c .before .before .before in
+    let passed = made .before in
+    rw (taken (passed .before .before .fault-of .ensures) _ _ (passed .if1 .left), c .room-out .ensures, c .before .check-chain .ensures, c .before .before .needed .ensures, made .setup-of .ensures)
 
 pub sedhavil-floats-needed-spec : {M : Type 1} → statement M
 sedhavil-floats-needed-spec =

@@ -43,9 +43,10 @@ returns-2 c =
     let passed = made .before in
     let asked = passed .before .before in
     let z = sized (now (asked .before .before .before .before .before .args .stages)) (asked .fault-of .ensures) (passed .if1 .left) in
-    let positions = out .scatter .ensures .0 (z .positions-all) in
-    let floats = out .scatter .ensures .1 (z .floats-all) in
-    (rw (taken (asked .fault-of .ensures) _ _ (passed .if1 .left)) (cc), rw (taken (asked .fault-of .ensures) _ _ (passed .if1 .left)) (cc))
+    let started = ran .start .ensures in (
+      rw (taken (asked .fault-of .ensures) _ _ (passed .if1 .left), c .answer-out .ensures, started .0 .0, made .setup-of .ensures),
+      rw (taken (asked .fault-of .ensures) _ _ (passed .if1 .left), started .1, out .scatter .ensures .0 (z .positions-all), out .scatter .ensures .1 (z .floats-all), started .0 .1, made .setup-of .ensures),
+    )
 
 pub sedhavil-start-spec : {M : Type 1} → statement M
 sedhavil-start-spec =
