@@ -17,7 +17,7 @@ use Rattle.stage.specs.declared.setup.Setup.{Setup}
 use Rattle.tops.specs.Tops.{topAt, topsOf}
 use Rattle.refuse.specs.Entries.{tick}
 use Rattle.table.proofs.Clear.{Clear}
-use Rattle.tops.proofs.TopStages.{tops-le-16, top-le, top-next}
+use Rattle.tops.proofs.TopStages.{tops-few, top-le, top-next}
 use Rattle.chain.specs.Chain.{Room, chainOf, framesOf, Ready, Orderly, stepped, ordered}
 use Rattle.chain.specs.Demands.{Arrays}
 use Rattle.chain.proofs.Stretches.{replaced-same}
@@ -47,7 +47,7 @@ module _ (setup : Setup) where
   ready s order a z = record {
     samples = omega arith;
     held = record { store = z .room; positions = omega (arith, a .positions, z .few); floats = omega (arith, a .floats, z .few) };
-    stages = omega (arith, tops-le-16 setup, a .progress);
+    stages = omega (arith, tops-few setup, a .progress);
     within = z .within;
     falls = falls-from-next (topsOf setup) (s .progress) (λ k h g. z .falls k g h);
   }

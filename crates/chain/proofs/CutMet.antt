@@ -15,7 +15,7 @@ use Rattle.order.proofs.Cuts.{cut-parts}
 use Rattle.memories.specs.Sizes.{places}
 use Rattle.stage.specs.declared.setup.Setup.{Setup}
 use Rattle.tops.specs.Tops.{topsOf}
-use Rattle.tops.proofs.TopStages.{tops-le-16}
+use Rattle.tops.proofs.TopStages.{tops-few}
 use Rattle.refuse.proofs.Unrun.{unrun-most}
 use Rattle.chain.specs.Chain.{Room, chainOf, framesOf, Orderly, ordered}
 use Rattle.chain.specs.Run.{toEnd}
@@ -128,7 +128,7 @@ render-cut-anywhere setup n xs ys h p k ar fresh t =
     let zero : List ℕ = replicate places 0 in
     let s = begin (xs ++ ys) h p in
     let s₁ = begin xs h zero in
-    let none : AllAt setup 0 s₁ = λ j q. getD-replicate places j 0 0 (omega (arith, tops-le-16 setup)) in
+    let none : AllAt setup 0 s₁ = λ j q. getD-replicate places j 0 0 (omega (arith, tops-few setup)) in
     let a = toEnd setup s₁ in
     let cs = clear setup s [] t in
     let c₁ = first-clear setup n xs ys h p zero zero k ar refl refl t fresh none in

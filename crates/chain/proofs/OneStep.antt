@@ -12,31 +12,31 @@ use Rattle.line.specs.Held.{Held, holds, Ran, ran}
 use Rattle.order.specs.Stretch.{part, splice}
 use Rattle.order.specs.Chain.{State, at, step, put, out}
 use Rattle.stage.specs.declared.setup.Setup.{Setup}
-use Rattle.memories.specs.Sizes.{placePositions, placeFloats}
+use Rattle.memories.specs.Sizes.{places, placePositions, placeFloats}
 use Rattle.stage.specs.Setup.{usedOf}
 use Rattle.stage.specs.Layout.{startOf, startsOf}
 use Rattle.stage.proofs.Starts.{starts-at, start-le}
 use Rattle.step.specs.Step.{processAt}
 use Rattle.tops.specs.Tops.{topAt, topsRecord}
-use Rattle.tops.proofs.TopStages.{places-at, top-past, top-le, tops-le-16}
+use Rattle.tops.proofs.TopStages.{places-at, top-past, top-le, tops-few}
 use Rattle.line.specs.Frames.{frameAt}
 use Rattle.chain.specs.Chain.{stretch, replaced, state, Ready, May, stepped}
 
 -- ---- where top stage k lies: at the places from i up to e, its lines from a up to b
 
-module _ (setup : Setup) (k : ℕ) (starts places : List ℕ) (s : State Float Held) where
+module _ (setup : Setup) (k : ℕ) (starts tops : List ℕ) (s : State Float Held) where
   abbrev pub i : ℕ
-  i = getD places k 0
+  i = getD tops k 0
 
   abbrev pub e : ℕ
-  e = getD places (k + 1) 0
+  e = getD tops (k + 1) 0
 
   pub record Located : Type 0 where
-    pub known : k < 16
+    pub known : k < places
     pub i-is : i ≡ topAt setup k
     pub e-is : e ≡ topAt setup (suc k)
     pub some : i < e
-    pub inside : e ≤ 16
+    pub inside : e ≤ places
     pub a-is : getD starts i 0 ≡ startOf setup i
     pub b-is : getD starts e 0 ≡ startOf setup e
     pub starts-is : starts ≡ startsOf setup
@@ -46,15 +46,15 @@ module _ (setup : Setup) (k : ℕ) (starts places : List ℕ) (s : State Float H
     pub in-floats : placeFloats * e ≤ length (s .held .floats)
     pub in-samples : 2 * at s k + 2 ≤ length (s .samples)
 
-pub located : (setup : Setup) (k : ℕ) (starts places : List ℕ) (s : State Float Held) → starts ≡ startsOf setup → places ≡ topsRecord setup .places
-    → Ready setup s → May setup s k → Located setup k starts places s
+pub located : (setup : Setup) (k : ℕ) (starts tops : List ℕ) (s : State Float Held) → starts ≡ startsOf setup → tops ≡ topsRecord setup .places
+    → Ready setup s → May setup s k → Located setup k starts tops s
 unfolding topsRecord
-located setup k starts places s p q r m = record {
-  known = omega (arith, tops-le-16 setup);
+located setup k starts tops s p q r m = record {
+  known = omega (arith, tops-few setup);
   i-is = i-is;
   e-is = e-is;
   some = omega (arith, i-is, e-is, top-past setup k (m .inside));
-  inside = e16;
+  inside = e-in;
   a-is = a-is;
   b-is = b-is;
   starts-is = p;
@@ -66,10 +66,10 @@ located setup k starts places s p q r m = record {
 }
   where
     i₀ : ℕ
-    i₀ = getD places k 0
+    i₀ = getD tops k 0
 
     e₀ : ℕ
-    e₀ = getD places (k + 1) 0
+    e₀ = getD tops (k + 1) 0
 
     i-is : i₀ ≡ topAt setup k
     i-is = places-at setup q k (omega (arith, m .inside))
@@ -83,14 +83,14 @@ located setup k starts places s p q r m = record {
     ie : i₀ ≤ e₀
     ie = omega (arith, i-is, e-is, top-past setup k (m .inside))
 
-    e16 : e₀ ≤ 16
-    e16 = omega (arith, ec)
+    e-in : e₀ ≤ places
+    e-in = omega (arith, ec)
 
     a-is : getD starts i₀ 0 ≡ startOf setup i₀
-    a-is = starts-at setup p i₀ (omega (arith, ie, e16))
+    a-is = starts-at setup p i₀ (omega (arith, ie, e-in))
 
     b-is : getD starts e₀ 0 ≡ startOf setup e₀
-    b-is = starts-at setup p e₀ e16
+    b-is = starts-at setup p e₀ e-in
 
 -- ---- the stretches of one top stage, lent and back
 

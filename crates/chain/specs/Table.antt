@@ -11,6 +11,7 @@ use Rattle.line.specs.Held.{Held}
 use Rattle.order.specs.Chain.{State}
 use Rattle.rows.specs.Rows.{ByTheTable}
 use Rattle.stage.specs.declared.setup.Setup.{Setup}
+use Rattle.stage.specs.Setup.{usedOf}
 use Rattle.stage.specs.Layout.{neededOf}
 use Rattle.answer.specs.declared.Answer.the-variants.{Accepted}
 use Rattle.answer.specs.Answer.{numberOf, placeOf, acceptedOf}
@@ -26,6 +27,8 @@ pub record Tabled (setup : Setup) (s : State Float Held) (order : List ℕ) : Ty
   pub unchanged : acceptedOf (answerOn setup s order) ≡ false → leftOf setup s order ≡ s
   -- "what meets none of document 01's eleven refusals is rendered": the order is run, entry by entry
   pub rendered : acceptedOf (answerOn setup s order) ≡ true → leftOf setup s order ≡ ordered setup s order
+  -- and every stage of the list has a place
+  pub all-used : acceptedOf (answerOn setup s order) ≡ true → usedOf setup ≡ setup .count
 
 -- of every call of `run`
 abbrev pub AnswersTabled : Type 0
@@ -42,6 +45,7 @@ pub record StartTabled (setup : Setup) (store : List Float) : Type 0 where
   pub unchanged : acceptedOf (chainAnswer setup (neededOf setup) (length store)) ≡ false → startedOf setup store ≡ store
   pub cleared : acceptedOf (chainAnswer setup (neededOf setup) (length store)) ≡ true
       → startedOf setup store ≡ clearedTo (neededOf setup) store
+  pub all-used : acceptedOf (chainAnswer setup (neededOf setup) (length store)) ≡ true → usedOf setup ≡ setup .count
 
 -- of every call of `start`
 abbrev pub StartsTabled : Type 0

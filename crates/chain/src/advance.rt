@@ -8,9 +8,9 @@ ghost use Rattle.tops.specs.Tops.{topsOf, topsRecord};
 ghost use Rattle.chain.specs.Chain.{state, framesOf, Ready, May, Orderly, stepped, ordered};
 ghost use Rattle.chain.specs.Run.{toEnd};
 use frame::Frame;
-use memories::FLOATS;
+use memories::PLACE_FLOATS;
+use memories::PLACE_POSITIONS;
 use memories::PLACES;
-use memories::POSITIONS;
 use stage::layout::ENDS;
 use stage::setup::Setup;
 use step::place;
@@ -37,10 +37,10 @@ fn advance(
     let e = places[k + 1];
     let a = starts[i];
     let b = starts[e];
-    let p = POSITIONS * i;
-    let pe = POSITIONS * e;
-    let f = FLOATS * i;
-    let fe = FLOATS * e;
+    let p = PLACE_POSITIONS * i;
+    let pe = PLACE_POSITIONS * e;
+    let f = PLACE_FLOATS * i;
+    let fe = PLACE_FLOATS * e;
     let done = progress[k];
     let at = 2 * done;
     let x = Frame {

@@ -9,14 +9,14 @@ use crate::say::with;
 use memories::ALL_FLOATS;
 use memories::ALL_POSITIONS;
 use memories::Memories;
+use memories::PLACE_POSITIONS;
 use memories::PLACES;
-use memories::POSITIONS;
 use stage::setup;
 
 // The first position of list place 1.
 fn at_position(position: usize) -> Memories {
     let mut positions = [0; ALL_POSITIONS];
-    positions[POSITIONS] = position;
+    positions[PLACE_POSITIONS] = position;
     Memories {
         positions,
         floats: [0.0; ALL_FLOATS],

@@ -4,12 +4,12 @@ use mathlib.Core.List.{List, [], _∷_}
 use Prim.Native.Nat.{ℕ, _%_}
 use lib.Dec.{eqb}
 use lib.ListN.{length}
-use Rattle.rows.specs.Condition.{differ, fails}
+use Rattle.rows.specs.Condition.{differ}
 use Rattle.rows.specs.Rows.{Row, row, given, first, firstRow, ByTheTable}
 use Rattle.memories.specs.Sizes.{places, allPositions, allFloats}
 use Rattle.answer.specs.declared.Answer as answers
 use Rattle.answer.specs.Answer.{numberOf, placeOf}
-use Rattle.words.specs.Words.{wordCount, countOf, isStage, stageWords}
+use Rattle.words.specs.Words.{wordCount, countOf, unknownAt}
 use Rattle.face.specs.declared.Answer.{Answer}
 
 abbrev pub answer : ℕ → ℕ → Answer
@@ -27,7 +27,7 @@ faultRows words positions floats progress =
     ∷ row 101 (given 1 (differ positions allPositions)) (answer 101)
     ∷ row 101 (given 2 (differ floats allFloats)) (answer 101)
     ∷ row 101 (given 3 (differ progress places)) (answer 101)
-    ∷ row 102 (first (countOf words) (λ i. fails (isStage (stageWords words i)))) (answer 102)
+    ∷ row 102 (first (countOf words) (unknownAt words)) (answer 102)
     ∷ []
 
 -- number 0: the call can be read

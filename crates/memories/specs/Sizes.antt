@@ -10,19 +10,22 @@ places = 16
 abbrev pub placePositions : ℕ
 placePositions = lineCount
 
--- a place's floats: those of a reverb's combs, then the two frames of a filter or an EQ, which are, as frames, at these numbers
+-- a filter's or an EQ's two frames come after the floats of a reverb's combs: counted as frames, the first is here
 abbrev pub ic1eqAt : ℕ
 ic1eqAt = combCount / 2
 
+-- and the second here
 abbrev pub ic2eqAt : ℕ
 ic2eqAt = ic1eqAt + 1
 
+-- a place's floats: up to the end of that frame
 abbrev pub placeFloats : ℕ
 placeFloats = 2 * (ic2eqAt + 1)
 
--- of all places
+-- the positions of all places
 abbrev pub allPositions : ℕ
 allPositions = places * placePositions
 
+-- and their floats
 abbrev pub allFloats : ℕ
 allFloats = places * placeFloats

@@ -1,5 +1,5 @@
 // What stages remember beside their lines: the one home of its sizes, and of which kind uses which
-// part. Each list place has as many positions and floats as the kind that needs most of them.
+// part. Every list place has room for any kind.
 ghost use mathlib.Core.Path.{_≡_};
 ghost use Rattle.memories.specs.Memories.{zeroMemories};
 ghost use Rattle.memories.specs.Kinds.{remembered, remember};
@@ -15,7 +15,7 @@ use tuning::LINES;
 pub const PLACES: usize = 16;
 
 // A place's positions: one for each line of a reverb; a delay's is the first.
-pub const POSITIONS: usize = LINES;
+pub const PLACE_POSITIONS: usize = LINES;
 
 // A place's floats: those of a reverb's combs, then the two frames of a filter or an EQ. As a frame,
 // the first of the two is at IC1EQ.
@@ -23,11 +23,11 @@ const IC1EQ: usize = COMBS / 2;
 
 const IC2EQ: usize = IC1EQ + 1;
 
-pub const FLOATS: usize = 2 * (IC2EQ + 1);
+pub const PLACE_FLOATS: usize = 2 * (IC2EQ + 1);
 
-pub const ALL_POSITIONS: usize = PLACES * POSITIONS;
+pub const ALL_POSITIONS: usize = PLACES * PLACE_POSITIONS;
 
-pub const ALL_FLOATS: usize = PLACES * FLOATS;
+pub const ALL_FLOATS: usize = PLACES * PLACE_FLOATS;
 
 // Of all places; they go in and come back by value.
 pub struct Memories {

@@ -18,13 +18,13 @@ use Rattle.rows.specs.Condition.{decide}
 use Rattle.rows.specs.Rows.{firstRow}
 use Rattle.rows.proofs.Firsts.{Looked, look-start, look-on, look-found, look-over}
 use Rattle.rows.proofs.Tables.{no-row}
-use Rattle.refuse.specs.declared.entries.Rule.the-variants.{Kept, NoStage, AtEnd, Level}
+use Rattle.refuse.specs.declared.entries.Rule.the-variants.{Unbroken, NoStage, AtEnd, Level}
 use Rattle.refuse.specs.Entries.{noStage, atEnd, level, entryRows, ruleNumber, ruleOf, tick, stuck}
 
 -- a stage that may be run has a frame left
 pub kept-room : (tops frames : ℕ) (progress : List ℕ) (k : ℕ) → ruleNumber (ruleOf tops frames progress k) ≡ 0 → getD progress k 0 < frames
 unfolding ruleOf
-kept-room tops frames progress k e = lt-of-not-le (no-row ruleNumber (λ rule. 0) Kept (entryRows tops frames progress k) (omega arith) e .1 .0)
+kept-room tops frames progress k e = lt-of-not-le (no-row ruleNumber (λ rule. 0) Unbroken (entryRows tops frames progress k) (omega arith) e .1 .0)
 
 module _ (tops frames : ℕ) (progress order : List ℕ) where
   -- the progress when i entries are counted
@@ -38,7 +38,7 @@ module _ (tops frames : ℕ) (progress order : List ℕ) where
   unfolding stuck ruleOf firstRow
   stuck-numbered i = let k = getD order i 0 in go (decide (noStage tops k)) (decide (atEnd frames (at i) k)) (decide (level (at i) k))
     where
-      go : (a b c : Bool) → (a || b || c) ≡ not (eqb (ruleNumber (cond a NoStage (cond b AtEnd (cond c Level Kept)))) 0)
+      go : (a b c : Bool) → (a || b || c) ≡ not (eqb (ruleNumber (cond a NoStage (cond b AtEnd (cond c Level Unbroken)))) 0)
       go true b c = refl
       go false true c = refl
       go false false true = refl

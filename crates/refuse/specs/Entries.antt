@@ -7,11 +7,11 @@ use Rattle.order.specs.Order.{run}
 use Rattle.rows.specs.Condition.{Condition, less, most, both, _or_}
 use Rattle.rows.specs.Rows.{Row, row, given, firstRow}
 use Rattle.refuse.specs.declared.entries.Rule.{Rule}
-use Rattle.refuse.specs.declared.entries.Rule.the-variants.{Kept, NoStage, AtEnd, Level}
+use Rattle.refuse.specs.declared.entries.Rule.the-variants.{Unbroken, NoStage, AtEnd, Level}
 
 -- the number with which an entry is refused that breaks the rule; 0 where it breaks none
 abbrev pub ruleNumber : Rule → ℕ
-ruleNumber Kept = 0
+ruleNumber Unbroken = 0
 ruleNumber NoStage = 11
 ruleNumber AtEnd = 11
 ruleNumber Level = 11
@@ -30,7 +30,7 @@ atEnd frames progress k = most frames (getD progress k 0)
 abbrev pub level : List ℕ → ℕ → Condition
 level progress k = both (less 0 k) (most (getD progress (k - 1) 0) (getD progress k 0))
 
--- the first that it breaks
+-- the rules, in this order
 abbrev pub entryRows : ℕ → ℕ → List ℕ → ℕ → List (Row Rule)
 entryRows tops frames progress k =
     row 11 (given 0 (noStage tops k)) (λ p. NoStage)
@@ -38,9 +38,10 @@ entryRows tops frames progress k =
     ∷ row 11 (given 0 (level progress k)) (λ p. Level)
     ∷ []
 
+-- the first that the entry breaks
 unfoldable pub ruleOf : ℕ → ℕ → List ℕ → ℕ → Rule
 unfolding firstRow
-ruleOf tops frames progress k = firstRow (entryRows tops frames progress k) Kept
+ruleOf tops frames progress k = firstRow (entryRows tops frames progress k) Unbroken
 
 -- ---- a whole order
 

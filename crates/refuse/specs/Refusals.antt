@@ -72,7 +72,7 @@ sampleRows tops samples progress = row 10 (first (length samples) (badSample (un
 abbrev pub orderRows : ℕ → ℕ → List ℕ → List ℕ → List (Row Answer)
 orderRows tops frames progress order = row 11 (first (length order) (stuck tops frames progress order)) Entry ∷ []
 
--- all eleven
+-- all eleven, of the floats needed and the top stages that are told
 abbrev pub allRows : Setup → ℕ → ℕ → ℕ → List Float → List ℕ → List ℕ → List ℕ → List (Row Answer)
 allRows setup needed tops floats samples positions progress order =
     chainRows setup needed floats
@@ -80,28 +80,34 @@ allRows setup needed tops floats samples positions progress order =
     ++ (sampleRows tops samples progress
     ++ orderRows tops (length samples / 2) progress order))
 
+-- of those that the setup has
 abbrev pub refusalRows : Setup → ℕ → List Float → List ℕ → List ℕ → List ℕ → List (Row Answer)
 refusalRows setup floats samples positions progress order =
     allRows setup (neededOf setup) (topsOf setup) floats samples positions progress order
 
--- ---- the answers
+-- ---- the answers: that of the first row that applies, or `Accepted`
 
+-- by rows 1 to 5
 unfoldable pub chainAnswer : Setup → ℕ → ℕ → Answer
 unfolding firstRow
 chainAnswer setup needed floats = firstRow (chainRows setup needed floats) Accepted
 
+-- by rows 6 to 9
 unfoldable pub stateAnswer : Setup → ℕ → List ℕ → ℕ → List ℕ → Answer
 unfolding firstRow
 stateAnswer setup tops positions samples progress = firstRow (stateRows setup tops positions samples progress) Accepted
 
+-- by row 10
 unfoldable pub sampleAnswer : ℕ → List Float → List ℕ → Answer
 unfolding firstRow
 sampleAnswer tops samples progress = firstRow (sampleRows tops samples progress) Accepted
 
+-- by row 11
 unfoldable pub orderAnswer : ℕ → ℕ → List ℕ → List ℕ → Answer
 unfolding firstRow
 orderAnswer tops frames progress order = firstRow (orderRows tops frames progress order) Accepted
 
+-- by all of them
 unfoldable pub answerOf : Setup → ℕ → List Float → List ℕ → List ℕ → List ℕ → Answer
 unfolding firstRow
 answerOf setup floats samples positions progress order = firstRow (refusalRows setup floats samples positions progress order) Accepted

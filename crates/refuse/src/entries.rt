@@ -11,7 +11,7 @@ use stage::layout::number_at;
 
 // The rule that an entry of an order breaks.
 pub enum Rule {
-    Kept,
+    Unbroken,
     // it names no top stage
     NoStage,
     // its stage has run the last frame
@@ -25,7 +25,7 @@ pub fn number(rule: Rule) -> u32
     ensures { λ r. ⌜ r ≡ ruleNumber rule ⌝ }
 {
     match rule {
-        Rule::Kept => 0,
+        Rule::Unbroken => 0,
         Rule::NoStage => 11,
         Rule::AtEnd => 11,
         Rule::Level => 11,
@@ -44,12 +44,12 @@ pub fn may_run(tops: usize, frames: usize, progress: &[usize], k: usize) -> Rule
         return Rule::AtEnd;
     }
     if k == 0 {
-        return Rule::Kept;
+        return Rule::Unbroken;
     }
     if number_at(progress, k - 1) <= done {
         return Rule::Level;
     }
-    Rule::Kept
+    Rule::Unbroken
 }
 
 // The place of the first entry that breaks a rule, progress being counted entry by entry. The entries

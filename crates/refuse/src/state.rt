@@ -7,8 +7,8 @@ ghost use Rattle.stage.specs.Setup.{usedOf};
 ghost use Rattle.refuse.specs.Refusals.{lostAt, aheadAt, stateAnswer};
 use answer::Answer;
 use memories::ALL_POSITIONS;
+use memories::PLACE_POSITIONS;
 use memories::PLACES;
-use memories::POSITIONS;
 use stage::layout::number_at;
 use stage::lines::is_lost;
 use stage::setup::Setup;
@@ -25,8 +25,8 @@ fn first_lost(setup: Setup, positions: &[usize; ALL_POSITIONS]) -> usize
     while i < end {
         let slot = setup.slots[i];
         let stage = slot.stage;
-        let from = POSITIONS * i;
-        let to = from + POSITIONS;
+        let from = PLACE_POSITIONS * i;
+        let to = from + PLACE_POSITIONS;
         if is_lost(rate, stage, &all[from..to]) {
             return i;
         }

@@ -8,12 +8,12 @@ use Rattle.stage.proofs.kind.Stage.{the-type}
 use Rattle.stage.specs.declared.kind.Stage.{Stage}
 use Rattle.stage.specs.declared.kind.Stage.the-variants.{VolumeControl, PanningControl, Distortion, Filter, EqFilter, Reverb, Delay}
 use Rattle.stage.specs.declared.kind.Lines.the-variants.{NoLines}
-use Rattle.stage.specs.Holding.{holds, holdingOf}
+use Rattle.stage.specs.Holding.{holding, holdingOf}
 
 abbrev unnamed : List ℕ
 unnamed = 0 ∷ 1 ∷ 2 ∷ 3 ∷ 4 ∷ []
 
-pub holds-none : (s : Stage) → OneOf unnamed (tagOf the-type s) → holds 0 NoLines ≡ holdingOf s
+pub holds-none : (s : Stage) → OneOf unnamed (tagOf the-type s) → holding 0 NoLines ≡ holdingOf s
 unfolding holdingOf
 holds-none (VolumeControl volume) k = refl
 holds-none (PanningControl panning) k = refl

@@ -7,18 +7,18 @@ use Rattle.stage.specs.declared.kind.Lines.the-variants.{NoLines, Reverb
 use Rattle.stage.specs.declared.kind.Holding.{Holding}
 
 -- so many of the stages after it, and these lines
-abbrev pub holds : ℕ → Lines → Holding
-holds owned lines = record { owned = owned; lines = lines }
+abbrev pub holding : ℕ → Lines → Holding
+holding owned lines = record { owned = owned; lines = lines }
 
 -- only a reverb and a delay have lines, and only a delay owns stages
 unfoldable pub holdingOf : Stage → Holding
-holdingOf (VolumeControl volume) = holds 0 NoLines
-holdingOf (PanningControl panning) = holds 0 NoLines
-holdingOf (Distortion kind drive mix) = holds 0 NoLines
-holdingOf (Filter mode g resonance mix) = holds 0 NoLines
-holdingOf (EqFilter kind g gain q) = holds 0 NoLines
-holdingOf (Reverb feedback damping width mix) = holds 0 ReverbLines
-holdingOf (Delay frames feedback mix owned) = holds owned (FrameLine frames)
+holdingOf (VolumeControl volume) = holding 0 NoLines
+holdingOf (PanningControl panning) = holding 0 NoLines
+holdingOf (Distortion kind drive mix) = holding 0 NoLines
+holdingOf (Filter mode g resonance mix) = holding 0 NoLines
+holdingOf (EqFilter kind g gain q) = holding 0 NoLines
+holdingOf (Reverb feedback damping width mix) = holding 0 ReverbLines
+holdingOf (Delay frames feedback mix owned) = holding owned (FrameLine frames)
 
 -- how many of the stages after it are its own
 abbrev pub ownedOf : Stage → ℕ

@@ -15,16 +15,17 @@ lengthsOf rate NoLines = []
 lengthsOf rate ReverbLines = reverbLines rate
 lengthsOf rate (FrameLine frames) = frames ∷ []
 
--- the floats that a line has for each one of its length: "two per delay frame"
+-- the floats of one element of a line: a reverb's lines hold floats, a delay's holds frames, "two per delay frame"
 unfoldable pub elementFloats : Lines → ℕ
 elementFloats NoLines = 0
 elementFloats ReverbLines = 1
 elementFloats (FrameLine frames) = 2
 
--- of a stage: the lengths of its lines, and the floats of all of them
+-- of a stage: the lengths of its lines
 abbrev pub linesOf : ℕ → Stage → List ℕ
 linesOf rate stage = lengthsOf rate (holdingOf stage .lines)
 
+-- and the floats of all of them
 unfoldable pub floatsOf : ℕ → Stage → ℕ
 unfolding holdingOf lengthsOf elementFloats
 floatsOf rate stage = elementFloats (holdingOf stage .lines) * total (linesOf rate stage)
@@ -33,5 +34,6 @@ floatsOf rate stage = elementFloats (holdingOf stage .lines) * total (linesOf ra
 abbrev pub offLines : List ℕ → List ℕ → Condition
 offLines lines positions = among (length lines) (λ j. most (getD lines j 0) (getD positions j 0))
 
+-- the same of a stage's lines
 abbrev pub lostOf : ℕ → Stage → List ℕ → Condition
 lostOf rate stage positions = offLines (linesOf rate stage) positions

@@ -11,7 +11,7 @@ use Rattle.stage.specs.declared.setup.Slot.{Slot}
 use Rattle.stage.specs.declared.setup.Setup.{Setup}
 use Rattle.stage.specs.Holding.{holdingOf, ownedOf}
 
--- a place that is not used holds a volume of 0 dB
+-- what is read past the list's end, and what an empty setup holds: a volume of 0 dB
 abbrev pub unused : Slot
 unused = record { stage = VolumeControl (pos 0) }
 
@@ -19,7 +19,7 @@ unused = record { stage = VolumeControl (pos 0) }
 abbrev pub stageAt : Setup → ℕ → Stage
 stageAt setup i = getD (setup .slots) i unused .stage
 
--- how many places are used: a list of more stages than that is refused
+-- how many places are used, 16 at most: a longer list is refused
 abbrev pub usedOf : Setup → ℕ
 usedOf setup = min (setup .count) places
 

@@ -16,8 +16,8 @@ use frame::Frame;
 use line::frames::frame_at;
 use line::frames::put_frame;
 use line::position::next_position;
-use memories::FLOATS;
-use memories::POSITIONS;
+use memories::PLACE_FLOATS;
+use memories::PLACE_POSITIONS;
 use memories::keep;
 use memories::recall;
 use stage::kind::Stage;
@@ -62,8 +62,8 @@ fn delay_stage(
 {
     let length = frames as usize;
     let n = lesser(2 * length, store.len());
-    let p = lesser(POSITIONS, positions.len());
-    let f = lesser(FLOATS, floats.len());
+    let p = lesser(PLACE_POSITIONS, positions.len());
+    let f = lesser(PLACE_FLOATS, floats.len());
     let at = number_at(positions, 0);
     let oldest = frame_at(&store[..n], at);
     let fed = span(
@@ -182,8 +182,8 @@ fn span(
     let stage = slot.stage;
     let next = next_place(stage, i, e);
     let n = lesser(size_between(starts, i, next), store.len());
-    let p = lesser(POSITIONS * (next - i), positions.len());
-    let f = lesser(FLOATS * (next - i), floats.len());
+    let p = lesser(PLACE_POSITIONS * (next - i), positions.len());
+    let f = lesser(PLACE_FLOATS * (next - i), floats.len());
     let y = step(
         setup,
         starts,

@@ -16,9 +16,10 @@ use Rattle.rows.specs.Condition.{fails}
 use Rattle.rows.specs.Rows.{Row, NoRow}
 use Rattle.rows.proofs.Decided.{is-not}
 use Rattle.rows.proofs.Tables.{no-row-answer}
-use Rattle.memories.specs.Sizes.{placePositions}
+use Rattle.memories.specs.Sizes.{places, placePositions}
 use Rattle.stage.specs.declared.setup.Setup.{Setup}
 use Rattle.stage.specs.Setup.{stageAt}
+use Rattle.stage.specs.Layout.{neededOf}
 use Rattle.stage.specs.Lines.{linesOf}
 use Rattle.stage.specs.Range.{inRangeOf}
 use Rattle.stage.proofs.FewLines.{few-lines}
@@ -26,7 +27,7 @@ use Rattle.answer.specs.declared.Answer.{Answer}
 use Rattle.answer.specs.declared.Answer.the-variants.{Accepted}
 use Rattle.answer.specs.Answer.{acceptedOf}
 use Rattle.tops.specs.Tops.{topsOf}
-use Rattle.refuse.specs.Refusals.{refusalRows, answerOf}
+use Rattle.refuse.specs.Refusals.{chainRows, refusalRows, chainAnswer, answerOf}
 use Rattle.refuse.proofs.Parts.{part-clear}
 use Rattle.table.proofs.Clear.{Clear}
 use Rattle.table.proofs.Runs.{free-runs, runs-free}
@@ -95,3 +96,8 @@ module _ (setup : Setup) (floats : ℕ) (samples : List Float) (positions progre
   pub accepted-of-clear : Clears → answerOf setup floats samples positions progress order ≡ Accepted
   unfolding answerOf
   accepted-of-clear k = no-row-answer Accepted rows (rows-of-clear k)
+
+-- of a fresh start: every stage has a place
+pub start-few : (setup : Setup) (floats : ℕ) → acceptedOf (chainAnswer setup (neededOf setup) floats) ≡ true → setup .count ≤ places
+unfolding chainAnswer
+start-few setup floats h = not-less (part-clear (chainRows setup (neededOf setup) floats) refl (omega arith) h .1 .0)

@@ -24,7 +24,8 @@ use Rattle.stage.specs.Layout.{startOf}
 use Rattle.answer.specs.Answer.{numberOf, placeOf}
 use Rattle.tops.specs.Tops.{topsOf}
 use Rattle.refuse.specs.Shape.{faulty, depthOf}
-use Rattle.refuse.specs.Entries.{stuck}
+use Rattle.refuse.specs.declared.entries.Rule.the-variants.{Unbroken, NoStage, AtEnd, Level}
+use Rattle.refuse.specs.Entries.{ruleOf, stuck}
 use Rattle.refuse.specs.Refusals.{answerOf}
 
 -- these stages, at this rate
@@ -105,3 +106,28 @@ depth-3 = refl
 pub depth-4 : told 44100 (delay 1 4 ∷ delay 1 3 ∷ delay 1 2 ∷ delay 1 1 ∷ volume ∷ []) 8 [] [] ≡ given 3 4
 unfolding answerOf faulty depthOf holdingOf firstFrom
 depth-4 = refl
+
+-- ---- which rule an entry breaks, of two top stages and one frame; the first, where it breaks two
+pub rule-no-stage : ruleOf 2 1 (0 ∷ 0 ∷ []) 2 ≡ NoStage
+unfolding ruleOf
+rule-no-stage = refl
+
+pub rule-at-end : ruleOf 2 1 (1 ∷ 1 ∷ []) 0 ≡ AtEnd
+unfolding ruleOf
+rule-at-end = refl
+
+pub rule-level : ruleOf 2 1 (0 ∷ 0 ∷ []) 1 ≡ Level
+unfolding ruleOf
+rule-level = refl
+
+pub rule-unbroken : ruleOf 2 1 (1 ∷ 0 ∷ []) 1 ≡ Unbroken
+unfolding ruleOf
+rule-unbroken = refl
+
+pub rule-no-stage-first : ruleOf 2 0 (0 ∷ 0 ∷ []) 2 ≡ NoStage
+unfolding ruleOf
+rule-no-stage-first = refl
+
+pub rule-at-end-first : ruleOf 2 1 (1 ∷ 1 ∷ []) 1 ≡ AtEnd
+unfolding ruleOf
+rule-at-end-first = refl

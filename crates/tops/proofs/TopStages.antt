@@ -67,13 +67,13 @@ module _ (setup : Setup) where
   abbrev past : ℕ → Bool
   past k = leb c (topAt setup k)
 
-  pub tops-le-16 : topsOf setup ≤ 16
+  pub tops-few : topsOf setup ≤ places
   unfolding topsOf
-  tops-le-16 = first-le past 16
+  tops-few = first-le past places
 
   top-below : (k : ℕ) → k < topsOf setup → topAt setup k < c
   unfolding topsOf
-  top-below k h = leb-false c (topAt setup k) (first-clear past 16 k h)
+  top-below k h = leb-false c (topAt setup k) (first-clear past places k h)
 
   pub top-past : (k : ℕ) → k < topsOf setup → topAt setup k < topAt setup (suc k)
   top-past k h = top-later k (top-below k h)
@@ -83,16 +83,16 @@ module _ (setup : Setup) where
   top-from zero h = omega arith
   top-from (suc k) h = omega (arith, top-from k (omega arith), top-past k h)
 
-  top-end : c ≤ 16 → topAt setup (topsOf setup) ≡ c
+  top-end : c ≤ places → topAt setup (topsOf setup) ≡ c
   unfolding topsOf
-  top-end h = go (decLt (topsOf setup) 16)
+  top-end h = go (decLt (topsOf setup) places)
     where
-      go : Dec (topsOf setup < 16) → topAt setup (topsOf setup) ≡ c
-      go (yes g) = omega (arith, leb-true c (topAt setup (topsOf setup)) (first-so past 16 g), top-le (topsOf setup))
+      go : Dec (topsOf setup < places) → topAt setup (topsOf setup) ≡ c
+      go (yes g) = omega (arith, leb-true c (topAt setup (topsOf setup)) (first-so past places g), top-le (topsOf setup))
       go (no g) = omega (arith, top-from (topsOf setup) (omega arith), top-le (topsOf setup))
 
   -- where a place is below the count there are more, and where it is not there are no more
-  pub tops-more : (k : ℕ) → c ≤ 16 → k ≤ topsOf setup → topAt setup k < c → k < topsOf setup
+  pub tops-more : (k : ℕ) → c ≤ places → k ≤ topsOf setup → topAt setup k < c → k < topsOf setup
   tops-more k h g q = go (ℕ-discrete k (topsOf setup))
     where
       go : Dec (k ≡ topsOf setup) → k < topsOf setup
@@ -107,20 +107,20 @@ module _ (setup : Setup) where
       go (no h) = omega arith
 
   -- ---- the table
-  places-are : listOf (topOr0 setup) 17 ≡ topsRecord setup .places
+  places-are : listOf (topOr0 setup) (places + 1) ≡ topsRecord setup .places
   unfolding topsRecord
   places-are = refl
 
   pub places-at : {places : List ℕ} → places ≡ topsRecord setup .places → (k : ℕ) → k ≤ topsOf setup → getD places k 0 ≡ topAt setup k
-  places-at e k h = ap (λ (xs : List ℕ). getD xs k 0) (e ∙ sym places-are) ∙ listed-at (topOr0 setup) 0 17 k (omega (arith, tops-le-16)) ∙ rw (le-leb k (topsOf setup) h)
+  places-at e k h = ap (λ (xs : List ℕ). getD xs k 0) (e ∙ sym places-are) ∙ listed-at (topOr0 setup) 0 (places + 1) k (omega (arith, tops-few)) ∙ rw (le-leb k (topsOf setup) h)
 
   -- ---- a loop that fills it: the entries up to n stand, and those beyond are 0
   pub record Written (n : ℕ) (xs : List ℕ) : Type 0 where
-    pub full : length xs ≡ 17
+    pub full : length xs ≡ places + 1
     pub stands : (k : ℕ) → k < n + 1 → getD xs k 0 ≡ topAt setup k
-    pub beyond : (k : ℕ) → k < 17 → n < k → getD xs k 0 ≡ 0
+    pub beyond : (k : ℕ) → k < places + 1 → n < k → getD xs k 0 ≡ 0
 
-  pub written-more : (n v : ℕ) (xs : List ℕ) → n < 16 → Written n xs → v ≡ topAt setup (n + 1) → Written (n + 1) (set xs (n + 1) v)
+  pub written-more : (n v : ℕ) (xs : List ℕ) → n < places → Written n xs → v ≡ topAt setup (n + 1) → Written (n + 1) (set xs (n + 1) v)
   written-more n v xs h w e = record {
     full = length-set xs (n + 1) v ∙ w .full;
     stands = listed-more (topAt setup) 0 xs (n + 1) v (omega (arith, w .full)) (w .stands) e;
@@ -129,9 +129,9 @@ module _ (setup : Setup) where
 
   pub written-all : (n : ℕ) (xs : List ℕ) → Written n xs → n ≡ topsOf setup → _≡_ {A = Tops} (record { places = xs; n = n }) (topsRecord setup)
   unfolding topsRecord
-  written-all n xs w e = λ i. record { places = listed-all (topOr0 setup) 0 xs 17 (w .full) (λ k h. at k h (decLt n k)) i; n = e i }
+  written-all n xs w e = λ i. record { places = listed-all (topOr0 setup) 0 xs (places + 1) (w .full) (λ k h. at k h (decLt n k)) i; n = e i }
     where
-      at : (k : ℕ) → k < 17 → Dec (n < k) → getD xs k 0 ≡ topOr0 setup k
+      at : (k : ℕ) → k < places + 1 → Dec (n < k) → getD xs k 0 ≡ topOr0 setup k
       at k h (yes q) = w .beyond k h q ∙ rw (lt-leb k (topsOf setup) (omega arith))
       at k h (no q) = w .stands k (omega arith) ∙ rw (le-leb k (topsOf setup) (omega arith))
 

@@ -1,11 +1,12 @@
 -- How words are read: a stage is twelve words, its kind and then its numbers; words that it does not use are 0. Definitions only.
-use mathlib.Core.Bool.{Bool, false, not, _&&_, _||_, cond}
+use mathlib.Core.Bool.{Bool, false, _&&_, _||_, cond}
 use mathlib.Core.List.{List}
 use Prim.Native.Nat.{ℕ, zero, suc, _+_, _*_, _-_, _/_, _^_}
 use lib.Dec.{ltb, leb, eqb}
 use lib.IntN.{ℤ, pos, negsuc}
 use lib.Ieee.{Float, binary32, binary64, ofBits}
 use lib.ListN.{length, getD}
+use Rattle.rows.specs.Condition.{Condition, fails}
 use Rattle.codes.specs.Codes.{clipAt, modeAt, bandAt}
 use Rattle.memories.specs.Sizes.{places}
 use Rattle.stage.specs.Listed.{listOf}
@@ -104,8 +105,8 @@ abbrev pub countOf : List ℕ → ℕ
 countOf words = length words / wordCount
 
 -- the words of the stage at i are no stage
-abbrev pub unknownAt : List ℕ → ℕ → Bool
-unknownAt words i = not (isStage (stageWords words i))
+abbrev pub unknownAt : List ℕ → ℕ → Condition
+unknownAt words i = fails (isStage (stageWords words i))
 
 -- a chain, of the stages that have a place
 unfoldable pub setupOf : ℕ → List ℕ → Setup

@@ -4,6 +4,7 @@
 ghost use mathlib.Core.Path.{_≡_};
 ghost use Prim.Native.Nat.{_+_, _*_, _<_};
 ghost use Rattle.rows.specs.First.{firstOf};
+ghost use Rattle.rows.specs.Condition.{decide};
 ghost use Rattle.words.specs.Words.{isShort, shortOf, isLevel, levelOf, singleOf, layoutVersion, isStage, lineStageOf, stageOf, wordCount, wordAt, lengthFrom, countOf, stageWords, unknownAt, setupOf};
 use codes::band_at;
 use codes::clip_at;
@@ -203,7 +204,7 @@ fn stage_words(words: &[u64], i: usize) -> StageWords
 
 // The first stage whose words are none, or how many stages there are.
 pub fn first_unknown(words: &[u64]) -> usize
-    ensures { λ r. ⌜ r ≡ firstOf (unknownAt (now (words .entry))) (countOf (now (words .entry))) ⌝ }
+    ensures { λ r. ⌜ r ≡ firstOf (λ i. decide (unknownAt (now (words .entry)) i)) (countOf (now (words .entry))) ⌝ }
 {
     let count = words.len() / WORDS;
     let mut i = 0;

@@ -7,13 +7,14 @@ use native.Mathlib.Omega.{arith}
 use denote.Ref.{now}
 use lib.ListN.{length}
 use Rattle.rows.proofs.Firsts.{Looked, look-start, look-on, look-found, look-over}
+use Rattle.rows.specs.Condition.{decide}
 use Rattle.words.specs.Words.{wordCount, countOf, isStage, unknownAt}
 use borrow.Author.Needs.{needs}
 use Rattle.words.proofs.first_unknown.Statement.{statement}
 use Rattle.words.proofs.first_unknown.Tie as tie
 
 abbrev Inv-loop : tie.InvT-loop
-Inv-loop words count i₀ i = Looked (unknownAt words) (countOf words) i
+Inv-loop words count i₀ i = Looked (λ j. decide (unknownAt words j)) (countOf words) i
 
 abbrev μ-loop : tie.MeasureT-loop
 μ-loop words count i₀ i = count - i

@@ -4,7 +4,7 @@ use Prim.Native.Nat.{_-_}
 use native.Mathlib.Omega.{arith}
 use lib.ListN.{length, getD, replicate}
 use borrow.Author.Needs.{needs}
-use Rattle.tops.proofs.TopStages.{tops-le-16}
+use Rattle.tops.proofs.TopStages.{tops-few}
 use Rattle.chain.specs.Chain.{framesOf, state}
 use Rattle.chain.proofs.Turns.{Left, left-first, left-ready, left-may, end-turn, end-moved, end-next, end-last}
 use Rattle.chain.proofs.advance.advance_to_end.Statement.{statement}
@@ -23,10 +23,10 @@ loop-holds : tie.Need-loop-holds Inv-loop μ-loop
 loop-holds c = (left-first (c .before .before .before .before .pre .1 .0) (c .before .before .before .before .pre .1 .1 .1), refl, refl, refl)
 
 mul-if1 : tie.Need-mul-if1 Inv-loop μ-loop
-mul-if1 c = let s = c .before .before .before .before .before in omega (arith, tops-le-16 (s .args .setup), s .pre .1 .1 .0)
+mul-if1 c = let s = c .before .before .before .before .before in omega (arith, tops-few (s .args .setup), s .pre .1 .1 .0)
 
 element-copy-out-if1 : tie.Need-element-copy-out-if1 Inv-loop μ-loop
-element-copy-out-if1 c = let s = c .before .before .before .before .before in omega (arith, tops-le-16 (s .args .setup), s .pre .1 .1 .0)
+element-copy-out-if1 c = let s = c .before .before .before .before .before in omega (arith, tops-few (s .args .setup), s .pre .1 .1 .0)
 
 advance-requires : tie.Need-advance-requires Inv-loop μ-loop
 advance-requires c κs = let t = end-turn _ (c .before .before .before .before .before .if1 .taken) (c .before .before .before .before .before .before .before .loop .inv .0) in (c .before .before .before .before .before .before .before .before .before .before .before .before .pre .0, (left-ready t, left-may t))

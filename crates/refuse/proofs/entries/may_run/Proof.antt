@@ -9,7 +9,7 @@ use denote.Ref.{now}
 use Rattle.rows.specs.Condition.{Condition}
 use Rattle.rows.proofs.Decided.{is, is-not}
 use Rattle.rows.proofs.Tested.{Gives, row-hit, row-pass, row-none}
-use Rattle.refuse.specs.declared.entries.Rule.the-variants.{Kept}
+use Rattle.refuse.specs.declared.entries.Rule.the-variants.{Unbroken}
 use Rattle.refuse.specs.Entries.{level, entryRows, ruleOf}
 use Rattle.refuse.proofs.entries.may_run.Statement.{statement}
 use Rattle.refuse.proofs.entries.may_run.Tie as tie
@@ -18,7 +18,7 @@ use Rattle.refuse.proofs.entries.may_run.Tie as tie
 abbrev Past : ℕ → tie.Start → Type 0
 Past n z =
     let a = z .args in
-    Gives (drop n (entryRows (a .tops) (a .frames) (now (a .progress)) (a .k))) Kept (ruleOf (a .tops) (a .frames) (now (a .progress)) (a .k))
+    Gives (drop n (entryRows (a .tops) (a .frames) (now (a .progress)) (a .k))) Unbroken (ruleOf (a .tops) (a .frames) (now (a .progress)) (a .k))
 
 past-none : (z : tie.Start) → Past 0 z
 unfolding ruleOf
