@@ -4,20 +4,19 @@ use mathlib.Core.Logic.{Dec·not-not}
 use mathlib.Core.List.{List}
 use Prim.Native.Nat.{ℕ}
 use native.Mathlib.Decide.{ℕ-discrete}
-use native.Mathlib.Omega.{arith}
 use lib.Ieee.{Float}
 use lib.ListN.{length}
 use borrow.Author.Tests.{eq-eqb, ne-eqb}
 use Rattle.line.specs.Held.{Held}
 use Rattle.order.specs.Chain.{State}
 use Rattle.memories.specs.Sizes.{places, allPositions, allFloats}
-use Rattle.rows.proofs.Tables.{no-row}
 use Rattle.stage.specs.declared.setup.Setup.{Setup}
 use Rattle.answer.specs.declared.Answer as answers
 use Rattle.chain.specs.Chain.{state}
 use Rattle.face.specs.declared.Answer.{Answer}
-use Rattle.face.specs.Call.{answer, answerOut, faultRows, faultOf, read}
+use Rattle.face.specs.Call.{answerOut, faultOf, read}
 use Rattle.face.specs.Face.{blockFault}
+use Rattle.face.proofs.Tabled.{fault-tabled}
 
 -- ---- what a test that was passed says of the lengths
 pub record Sized (positions floats progress : ℕ) : Type 0 where
@@ -26,9 +25,8 @@ pub record Sized (positions floats progress : ℕ) : Type 0 where
   pub progress-all : progress ≡ places
 
 pub sized : (words : List ℕ) {p f g : ℕ} {fault : Answer} → fault ≡ faultOf words p f g → fault .number ≡ 0 → Sized p f g
-unfolding faultOf
 sized words {p} {f} {g} e h =
-    let none = no-row (λ a. a .number) (λ a. a .place) (answer 0 0) (faultRows words p f g) (omega arith) (rw e at h) in
+    let none = fault-tabled words p f g .clear (rw e at h) in
     record {
       positions-all = Dec·not-not (ℕ-discrete p allPositions) .0 (none .1 .0);
       floats-all = Dec·not-not (ℕ-discrete f allFloats) .0 (none .1 .1 .0);
