@@ -207,7 +207,7 @@ pub extern "C" fn sedhavil_floats_needed(rate: u32, stages: &[u64]) -> Answer
 }
 
 // The version of the layout of a stage's words: a host that was made for another sends words that this
-// library does not know.
+// library does not know, or takes for others.
 #[no_mangle]
 pub extern "C" fn sedhavil_layout_version() -> u32
     ensures { λ r. ⌜ r ≡ layoutVersion ⌝ }
