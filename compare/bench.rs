@@ -29,7 +29,7 @@ use face::Held;
 use kira::effect::Effect;
 use kira::info::Info;
 use kira::{Decibels, Frame};
-use kira_chain::{FLOATS, kept};
+use kira_chain::kept;
 use linked::{
     sedhavil_amplitude, sedhavil_as_f32, sedhavil_coefficients, sedhavil_sqrt_f32,
     sedhavil_sqrt_f64,
@@ -37,7 +37,7 @@ use linked::{
 use stage::Stage;
 use std::hint::black_box;
 use std::time::{Duration, Instant};
-use table::{Delay, POSITIONS, Reverb};
+use table::{ALL_FLOATS, ALL_POSITIONS, Delay, PLACES, Reverb};
 
 // A key is a frequency in hertz, with the tangent that kira works out for it.
 mod fed {
@@ -52,7 +52,6 @@ mod fed {
 
 const RATE: u32 = 48_000;
 const BLOCK: usize = 512;
-const PLACES: usize = 16;
 
 // ---- time
 
@@ -155,8 +154,8 @@ impl Ours {
             input: noise(block),
             held: Held {
                 samples: vec![0.0; 2 * block],
-                positions: vec![0; POSITIONS * PLACES],
-                floats: vec![0.0; FLOATS * PLACES],
+                positions: vec![0; ALL_POSITIONS],
+                floats: vec![0.0; ALL_FLOATS],
                 store: vec![0.0; floats],
                 progress: vec![0; PLACES],
             },

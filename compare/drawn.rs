@@ -75,7 +75,9 @@ fn frames(random: &mut Random) -> usize {
 
 // Positions: those of lines below their lengths, the others anything.
 fn positions(random: &mut Random, rate: u32, list: &[Listed]) -> Vec<usize> {
-    let mut positions: Vec<usize> = (0..384).map(|_| random.next() as usize).collect();
+    let mut positions: Vec<usize> = (0..table::ALL_POSITIONS)
+        .map(|_| random.next() as usize)
+        .collect();
     for (place, stage) in list.iter().enumerate() {
         let own = &mut positions[table::POSITIONS * place..];
         let mut at = |length: usize| match random.below(4) {
@@ -101,7 +103,7 @@ fn progress(random: &mut Random, frames: usize, tops: usize) -> Vec<usize> {
         _ => 0,
     };
     let mut progress = vec![];
-    for k in 0..16 {
+    for k in 0..table::PLACES {
         if k < tops {
             most = match random.below(3) {
                 0 => most,
@@ -193,7 +195,7 @@ fn calls(random: &mut Random, held: &Held, tops: usize, count: usize) -> Vec<Cal
 
 // A case of up to 16 stages that is accepted at every call.
 pub fn case(random: &mut Random, rates: &Rates) -> Case {
-    let stages = random.between(0, 16) as usize;
+    let stages = random.between(0, table::PLACES as i32) as usize;
     let frames = frames(random);
     let calls = match random.below(128) {
         0 => random.between(100, 300),
@@ -234,7 +236,7 @@ fn drawn(random: &mut Random, rates: &Rates, stages: usize, frames: usize, count
     case.held = Held {
         samples,
         positions: positions(random, rate, &case.stages),
-        floats: floats(random, 320),
+        floats: floats(random, table::ALL_FLOATS),
         store: floats(random, needed + spare),
         progress,
     };

@@ -6,7 +6,7 @@ use crate::face::Held;
 use crate::fed;
 use crate::inputs::{DOUBLES, QS, SINGLES, audible, sample};
 use crate::stage::Stage;
-use crate::table::{Delay, POSITIONS, Reverb};
+use crate::table::{ALL_FLOATS, ALL_POSITIONS, Delay, PLACES, POSITIONS, Reverb};
 
 const LEVELS: [i32; 10] = [i32::MIN, -61, -60, -59, -24, 0, 24, 25, 1000, i32::MAX];
 
@@ -146,12 +146,12 @@ fn case(random: &mut Random, rate: u32, stages: Vec<Listed>, samples: usize) -> 
     let needed: usize = stages.iter().map(|stage| stage.floats(rate)).sum();
     let mut held = Held {
         samples: (0..samples).map(|_| audible(random)).collect(),
-        positions: vec![0; 384],
-        floats: (0..320).map(|_| sample(random)).collect(),
+        positions: vec![0; ALL_POSITIONS],
+        floats: (0..ALL_FLOATS).map(|_| sample(random)).collect(),
         store: (0..needed.min(16_384)).map(|_| sample(random)).collect(),
-        progress: vec![0; 16],
+        progress: vec![0; PLACES],
     };
-    for (place, stage) in stages.iter().take(16).enumerate() {
+    for (place, stage) in stages.iter().take(PLACES).enumerate() {
         let lines = stage.read().map_or(vec![], |stage| stage.lines(rate));
         for (line, &length) in lines.iter().enumerate() {
             let at = random.below(length as u64) as usize;

@@ -19,8 +19,13 @@ pub fn told(case: &Case, words: &[u64], held: &Held, what: &What) -> Refusal {
         What::Run(_) | What::Render => {
             words::wrong_length(words.len(), positions, floats, progress)
         }
-        What::Start => words::wrong_length(words.len(), positions, floats, 16),
-        What::FloatsNeeded => words::wrong_length(words.len(), 384, 320, 16),
+        What::Start => words::wrong_length(words.len(), positions, floats, table::PLACES),
+        What::FloatsNeeded => words::wrong_length(
+            words.len(),
+            table::ALL_POSITIONS,
+            table::ALL_FLOATS,
+            table::PLACES,
+        ),
     };
     if let Some(refusal) = wrong {
         return refusal;

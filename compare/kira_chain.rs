@@ -3,7 +3,7 @@
 use crate::case::Listed;
 use crate::face::Held;
 use crate::stage::{Remembering, effect_of};
-use crate::table::POSITIONS;
+use crate::table::{COMB_FLOATS, FLOATS, POSITIONS};
 use kira::effect::Effect;
 use kira::effect::delay::{DelayBuilder, OpenDelay};
 use kira::effect::reverb::{OpenReverb, ReverbBuilder};
@@ -11,9 +11,6 @@ use kira::info::Info;
 use kira::{Decibels, Frame, Mix, Value};
 use std::sync::{Arc, Mutex};
 use std::time::Duration;
-
-// of the memories, at each list place
-pub const FLOATS: usize = 20;
 
 pub enum Kept {
     Alone(Box<dyn Remembering>),
@@ -185,7 +182,7 @@ impl KiraChain {
             match &mut *place.effect.lock().expect("no panic before") {
                 Kept::Alone(effect) => {
                     for (i, frame) in effect.remembered().into_iter().flatten().enumerate() {
-                        way.copy_frame(&mut floats[16 + 2 * i..], frame);
+                        way.copy_frame(&mut floats[COMB_FLOATS + 2 * i..], frame);
                     }
                 }
                 Kept::Reverb(effect) => exchange_reverb(effect, positions, floats, store, way),

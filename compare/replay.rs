@@ -35,7 +35,7 @@ use rates::Rates;
 use record::record;
 use std::fs;
 use std::process::ExitCode;
-use table::Refusal;
+use table::{ALL_FLOATS, ALL_POSITIONS, PLACES, Refusal};
 use thin::thin;
 
 const SEED: u64 = 0x5ed1_0300;
@@ -103,7 +103,7 @@ fn answered(case: &Case) -> Option<(Refusal, Held)> {
 // A case made thin, with its answer and its record.
 fn recorded(random: &mut Random, case: &mut Case) -> Option<(Refusal, Vec<u8>)> {
     let held = &case.held;
-    if (held.positions.len(), held.floats.len(), held.progress.len()) != (384, 320, 16) {
+    if (held.positions.len(), held.floats.len(), held.progress.len()) != (ALL_POSITIONS, ALL_FLOATS, PLACES) {
         return None;
     }
     thin(random, case);

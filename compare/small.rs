@@ -5,7 +5,7 @@ use crate::face::Held;
 use crate::judge::{self, Seen, judge};
 use crate::shrink;
 use crate::stage::Stage;
-use crate::table::Delay;
+use crate::table::{ALL_FLOATS, ALL_POSITIONS, Delay, PLACES};
 use crate::tally::Tally;
 use std::collections::HashMap;
 
@@ -53,10 +53,10 @@ fn case(stages: Vec<Listed>, frames: usize, progress: &[usize], calls: Vec<What>
     let floats: usize = floats.sum();
     let mut held = Held {
         samples: numbers(2 * frames, -0.3),
-        positions: vec![0; 384],
-        floats: numbers(320, 0.1),
+        positions: vec![0; ALL_POSITIONS],
+        floats: numbers(ALL_FLOATS, 0.1),
         store: numbers(floats + 1, 0.2),
-        progress: vec![9; 16],
+        progress: vec![9; PLACES],
     };
     held.progress[..progress.len()].copy_from_slice(progress);
     let calls = calls.into_iter().map(|what| Call {
@@ -95,7 +95,7 @@ pub fn shapes(seen: &mut Seen) -> bool {
                 What::Render,
                 What::Start,
             ];
-            let case = case(stages.collect(), 4, &[0; 16], calls);
+            let case = case(stages.collect(), 4, &[0; PLACES], calls);
             let judged = judge(&case, seen);
             tally.check(judged.is_ok(), || shrink::report(&case));
         }

@@ -1,8 +1,7 @@
 // A case made smaller or plainer in one place.
 use crate::case::{Case, Listed, What};
-use crate::kira_chain::FLOATS;
 use crate::stage::Stage;
-use crate::table::{Delay, POSITIONS, Reverb};
+use crate::table::{ALL_FLOATS, ALL_POSITIONS, Delay, FLOATS, PLACES, POSITIONS, Reverb};
 
 // Without so many stages from a place on: without their lines and memories, and where one was a top
 // stage, without its progress and its entries.
@@ -16,12 +15,13 @@ pub fn without(case: &Case, place: usize, count: usize) -> Case {
     if end <= held.store.len() {
         held.store.drain(start..end);
     }
-    if place + count <= 16 && held.positions.len() == 384 && held.floats.len() == 320 {
+    let is_whole = held.positions.len() == ALL_POSITIONS && held.floats.len() == ALL_FLOATS;
+    if place + count <= PLACES && is_whole {
         held.positions
             .drain(POSITIONS * place..POSITIONS * (place + count));
-        held.positions.resize(384, 0);
+        held.positions.resize(ALL_POSITIONS, 0);
         held.floats.drain(FLOATS * place..FLOATS * (place + count));
-        held.floats.resize(320, 0.0);
+        held.floats.resize(ALL_FLOATS, 0.0);
     }
     let is_alone = count == 1 && case.stages[place].owned() > 0;
     case.stages.drain(place..place + count);

@@ -160,7 +160,7 @@ fn store(random: &mut Random, case: &mut Case) {
 }
 
 fn position(random: &mut Random, case: &mut Case) {
-    let Some(place) = any_place(random, case.stages.len().min(16)) else {
+    let Some(place) = any_place(random, case.stages.len().min(table::PLACES)) else {
         return;
     };
     let lines = match case.stages[place] {
@@ -196,7 +196,7 @@ fn many_frames(random: &mut Random, case: &mut Case) {
 
 fn progress(random: &mut Random, case: &mut Case) {
     let frames = case.held.samples.len() / 2;
-    let Some(k) = any_place(random, case.tops().len().min(16)) else {
+    let Some(k) = any_place(random, case.tops().len().min(table::PLACES)) else {
         return;
     };
     if k >= case.held.progress.len() {
@@ -229,7 +229,7 @@ fn sample(random: &mut Random, case: &mut Case) {
 fn entry(random: &mut Random, case: &mut Case) {
     let tops = case.tops().len();
     let mut named = || match random.below(4) {
-        0 => random.one_of(&[tops, tops + 1, 16, usize::MAX]),
+        0 => random.one_of(&[tops, tops + 1, table::PLACES, usize::MAX]),
         _ => random.below(tops as u64 + 1) as usize,
     };
     let (added, kept) = (named(), named());
@@ -252,9 +252,9 @@ fn length(random: &mut Random, case: &mut Case) {
     let held = &mut case.held;
     match random.below(5) {
         0 => case.loose = random.between(1, WORDS as i32 - 1) as usize,
-        1 => held.positions.resize(changed(384), 0),
-        2 => held.floats.resize(changed(320), 0.0),
-        3 => held.progress.resize(changed(16), 0),
+        1 => held.positions.resize(changed(table::ALL_POSITIONS), 0),
+        2 => held.floats.resize(changed(table::ALL_FLOATS), 0.0),
+        3 => held.progress.resize(changed(table::PLACES), 0),
         _ => held.positions.clear(),
     }
 }

@@ -48,7 +48,15 @@ pub struct Refusal {
     pub place: usize,
 }
 
+// a list's places, and what each remembers: positions, and floats, those of combs first
+pub const PLACES: usize = 16;
 pub const POSITIONS: usize = 24;
+pub const COMB_FLOATS: usize = 16;
+pub const FLOATS: usize = COMB_FLOATS + 4;
+
+// of all places
+pub const ALL_POSITIONS: usize = PLACES * POSITIONS;
+pub const ALL_FLOATS: usize = PLACES * FLOATS;
 
 // ---- settings and lines
 
@@ -154,7 +162,7 @@ fn when(condition: bool) -> Option<usize> {
 fn refusal_of_stages(rate: u32, stages: &[Stage]) -> Option<Refusal> {
     let first = |at_fault: &dyn Fn(usize) -> bool| (0..stages.len()).find(|&i| at_fault(i));
     refuse(1, when(!(8_000..=192_000).contains(&rate)))
-        .or_else(|| refuse(2, when(stages.len() > 16)))
+        .or_else(|| refuse(2, when(stages.len() > PLACES)))
         .or_else(|| {
             let wrong = |i| is_misshapen(stages, i) || depth(stages, i) > 3;
             refuse(3, first(&wrong))

@@ -3,7 +3,7 @@
 use crate::case::{Call, Case, What};
 use crate::common::Random;
 use crate::record::LARGEST;
-use crate::table::POSITIONS;
+use crate::table::{COMB_FLOATS, PLACES, POSITIONS};
 use std::collections::HashSet;
 
 // A block of more samples is silent but for its ends, each of so many.
@@ -35,7 +35,7 @@ fn floats(random: &mut Random, floats: &mut [f32], is_kept: impl Fn(&mut Random,
 
 // How many positions each line of each stage has.
 fn lines(case: &Case) -> Vec<Vec<usize>> {
-    let lines = case.stages.iter().take(16);
+    let lines = case.stages.iter().take(PLACES);
     let lines = lines.map(|s| s.read().map_or(vec![], |stage| stage.lines(case.rate)));
     lines.collect()
 }
@@ -60,11 +60,11 @@ fn read_soon(random: &mut Random, case: &Case) -> HashSet<usize> {
     soon
 }
 
-// Whether a stage of this kind uses this one of its twenty floats.
+// Whether a stage of this kind uses this one of its place's floats.
 fn uses(kind: u64, float: usize) -> bool {
     match kind {
-        3 | 4 => float >= 16,
-        5 => float < 16,
+        3 | 4 => float >= COMB_FLOATS,
+        5 => float < COMB_FLOATS,
         _ => false,
     }
 }

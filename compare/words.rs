@@ -1,6 +1,6 @@
 // The flat face's own answers, 101 and 102, and its words for a stage (docs of the crate `face`), read
 // plainly: what a caller's words mean, or that they mean nothing.
-use crate::table::{Delay, Refusal, Reverb, Stage};
+use crate::table::{ALL_FLOATS, ALL_POSITIONS, Delay, PLACES, Refusal, Reverb, Stage};
 
 pub const WORDS: usize = 12;
 
@@ -86,9 +86,9 @@ pub fn wrong_length(
 ) -> Option<Refusal> {
     let wrong = [
         words % WORDS != 0,
-        positions != 384,
-        floats != 320,
-        progress != 16,
+        positions != ALL_POSITIONS,
+        floats != ALL_FLOATS,
+        progress != PLACES,
     ];
     let place = wrong.iter().position(|&is_wrong| is_wrong)?;
     Some(Refusal { number: 101, place })

@@ -60,10 +60,10 @@ extern "C" {
 #define SEDHAVIL_MAX_FRAMES 4096
 
 /* The lengths that slices must have. */
-#define SEDHAVIL_WORDS 12      /* of stages: this many for each */
-#define SEDHAVIL_POSITIONS 384 /* 24 for each place */
-#define SEDHAVIL_FLOATS 320    /* 20 for each place */
-#define SEDHAVIL_PROGRESS 16   /* one for each top stage; those past the last one are ignored */
+#define SEDHAVIL_WORDS 12                         /* of stages: this many for each */
+#define SEDHAVIL_POSITIONS (24 * SEDHAVIL_PLACES)
+#define SEDHAVIL_FLOATS (20 * SEDHAVIL_PLACES)
+#define SEDHAVIL_PROGRESS SEDHAVIL_PLACES         /* one for each top stage; those past the last one are ignored */
 
 enum {
     SEDHAVIL_ACCEPTED = 0,

@@ -39,12 +39,14 @@ pub use stage::{DistortionKind, EqFilterKind, FilterMode, LAYOUT_VERSION, Stage,
 
 use refusal::answered;
 
-/// Positions that stages remember: 24 for each of 16 places in the list.
-pub const POSITIONS: usize = 384;
-/// Floats that stages remember beside their lines: 20 for each of 16 places in the list.
-pub const FLOATS: usize = 320;
+/// Places of a list of stages.
+pub const PLACES: usize = 16;
+/// Positions that stages remember: 24 for each place.
+pub const POSITIONS: usize = 24 * PLACES;
+/// Floats that stages remember beside their lines: 20 for each place.
+pub const FLOATS: usize = 20 * PLACES;
 /// Top stages that a block counts the frames of.
-pub const PROGRESS: usize = 16;
+pub const PROGRESS: usize = PLACES;
 
 /// What stages remember beside their lines. At zero, its default, it is a fresh start.
 #[derive(Clone, Debug, PartialEq)]

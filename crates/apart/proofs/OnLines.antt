@@ -25,9 +25,9 @@ use Rattle.stage.specs.declared.kind.Stage.the-variants.{VolumeControl, Panning
 use Rattle.stage.specs.declared.setup.Setup.{Setup}
 use Rattle.stage.specs.Holding.{holdingOf}
 use Rattle.stage.specs.Setup.{stageAt, usedOf, nextPlace}
-use Rattle.stage.specs.Lines.{lengthsOf, linesOf}
+use Rattle.layout.specs.Lines.{lengthsOf, linesOf}
 use Rattle.stage.proofs.Next.{next-le, next-more}
-use Rattle.stage.proofs.FewLines.{few-lines}
+use Rattle.layout.proofs.FewLines.{few-lines}
 use Rattle.step.specs.Step.{delayStage, stageStep, inTurn, spanOf, stepOf, processAt}
 use Rattle.step.proofs.Levels.{step-is, span-zero, span-shallow, span-is, place-is}
 use Rattle.apart.proofs.Keeps.{step-keeps}

@@ -15,7 +15,7 @@ use Rattle.order.specs.Claims.{Stepped}
 use Rattle.order.proofs.OneStep.{one-step, made}
 use Rattle.stage.specs.declared.setup.Setup.{Setup}
 use Rattle.tops.specs.Tops.{topAt, topsOf}
-use Rattle.refuse.specs.Entries.{tick}
+use Rattle.entries.specs.Entries.{tick}
 use Rattle.table.proofs.Clear.{Clear}
 use Rattle.tops.proofs.TopStages.{tops-few, top-le, top-next}
 use Rattle.chain.specs.Chain.{Room, chainOf, framesOf, Ready, Orderly, stepped, ordered}

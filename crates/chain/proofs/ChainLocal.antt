@@ -8,7 +8,7 @@ use Rattle.line.specs.Held.{Held}
 use Rattle.line.proofs.Keeps.{Same}
 use Rattle.order.specs.Chain.{Local, Steady}
 use Rattle.stage.specs.declared.setup.Setup.{Setup}
-use Rattle.stage.specs.Layout.{startsOf}
+use Rattle.layout.specs.Layout.{startsOf}
 use Rattle.apart.proofs.Keeps.{place-keeps}
 use Rattle.tops.specs.Tops.{topAt}
 use Rattle.tops.proofs.TopStages.{top-le, top-next, top-mono}

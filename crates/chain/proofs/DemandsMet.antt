@@ -16,7 +16,7 @@ use Rattle.order.proofs.Finishing.{finishing-finishes, leaves-finishing}
 use Rattle.stage.specs.declared.setup.Setup.{Setup}
 use Rattle.memories.specs.Sizes.{placePositions, placeFloats}
 use Rattle.stage.specs.Setup.{usedOf}
-use Rattle.stage.specs.Layout.{startOf}
+use Rattle.layout.specs.Layout.{startOf}
 use Rattle.answer.specs.Answer.{acceptedOf}
 use Rattle.tops.specs.Tops.{topAt, topsOf}
 use Rattle.tops.proofs.TopStages.{top-le, top-next}

@@ -14,8 +14,8 @@ use Rattle.order.specs.Chain.{State, at, step, put, out}
 use Rattle.stage.specs.declared.setup.Setup.{Setup}
 use Rattle.memories.specs.Sizes.{places, placePositions, placeFloats}
 use Rattle.stage.specs.Setup.{usedOf}
-use Rattle.stage.specs.Layout.{startOf, startsOf}
-use Rattle.stage.proofs.Starts.{starts-at, start-le}
+use Rattle.layout.specs.Layout.{startOf, startsOf}
+use Rattle.layout.proofs.LineStarts.{starts-at, start-le}
 use Rattle.step.specs.Step.{processAt}
 use Rattle.tops.specs.Tops.{topAt, topsRecord}
 use Rattle.tops.proofs.TopStages.{places-at, top-past, top-le, tops-few}

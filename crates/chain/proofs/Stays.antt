@@ -19,8 +19,8 @@ use Rattle.order.proofs.Stretches.{length-part}
 use Rattle.stage.specs.declared.setup.Setup.{Setup}
 use Rattle.memories.specs.Sizes.{placePositions}
 use Rattle.stage.specs.Setup.{stageAt, usedOf}
-use Rattle.stage.specs.Layout.{startsOf}
-use Rattle.stage.specs.Lines.{linesOf}
+use Rattle.layout.specs.Layout.{startsOf}
+use Rattle.layout.specs.Lines.{linesOf}
 use Rattle.apart.proofs.OnLines.{Good, place-stays, good-part, good-splice}
 use Rattle.tops.specs.Tops.{topAt, topsOf}
 use Rattle.refuse.specs.Refusals.{unrunFrom}

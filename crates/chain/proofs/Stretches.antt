@@ -11,8 +11,8 @@ use Rattle.order.proofs.Stretches.{length-part, length-splice, part-before, par
 use Rattle.stage.specs.declared.setup.Setup.{Setup}
 use Rattle.memories.specs.Sizes.{placePositions, placeFloats}
 use Rattle.stage.specs.Setup.{usedOf}
-use Rattle.stage.specs.Layout.{startOf, neededOf}
-use Rattle.stage.proofs.Starts.{start-le}
+use Rattle.layout.specs.Layout.{startOf, neededOf}
+use Rattle.layout.proofs.LineStarts.{start-le}
 use Rattle.chain.specs.Chain.{stretch, replaced, Room}
 use Rattle.chain.specs.Demands.{Outside}
 

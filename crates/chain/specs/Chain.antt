@@ -11,7 +11,7 @@ use Rattle.order.specs.Chain.{Out, State, Chain, step, Ok, Inv}
 use Rattle.memories.specs.Sizes.{placePositions, placeFloats}
 use Rattle.stage.specs.declared.setup.Setup.{Setup}
 use Rattle.stage.specs.Setup.{usedOf}
-use Rattle.stage.specs.Layout.{startOf, startsOf, neededOf}
+use Rattle.layout.specs.Layout.{startOf, startsOf, neededOf}
 use Rattle.step.specs.Step.{processAt}
 use Rattle.tops.specs.Tops.{topAt, topsOf}
 

@@ -14,7 +14,7 @@ use Rattle.order.specs.Render.{frames, from, frameByFrame}
 use Rattle.order.specs.Claims.{begin, Cut}
 use Rattle.stage.specs.declared.setup.Setup.{Setup}
 use Rattle.memories.specs.Sizes.{places, placePositions, placeFloats, allPositions, allFloats}
-use Rattle.stage.specs.Layout.{startOf}
+use Rattle.layout.specs.Layout.{startOf}
 use Rattle.answer.specs.Answer.{acceptedOf}
 use Rattle.tops.specs.Tops.{topAt, topsOf}
 use Rattle.chain.specs.Chain.{stretch, chainOf, framesOf, stepped, Orderly, ordered}

@@ -12,7 +12,7 @@ use Rattle.order.specs.Chain.{State}
 use Rattle.rows.specs.Rows.{ByTheTable}
 use Rattle.stage.specs.declared.setup.Setup.{Setup}
 use Rattle.stage.specs.Setup.{usedOf}
-use Rattle.stage.specs.Layout.{neededOf}
+use Rattle.layout.specs.Layout.{neededOf}
 use Rattle.answer.specs.declared.Answer.the-variants.{Accepted}
 use Rattle.answer.specs.Answer.{numberOf, placeOf, acceptedOf}
 use Rattle.refuse.specs.Refusals.{chainRows, refusalRows, chainAnswer}

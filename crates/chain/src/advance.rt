@@ -3,7 +3,7 @@ ghost use mathlib.Core.Path.{_≡_};
 ghost use mathlib.Core.Bool.{cond};
 ghost use Prim.Native.Nat.{_-_, _<_};
 ghost use lib.ListN.{getD, replicate};
-ghost use Rattle.stage.specs.Layout.{startsOf};
+ghost use Rattle.layout.specs.Layout.{startsOf};
 ghost use Rattle.tops.specs.Tops.{topsOf, topsRecord};
 ghost use Rattle.chain.specs.Chain.{state, framesOf, Ready, May, Orderly, stepped, ordered};
 ghost use Rattle.chain.specs.Run.{toEnd};
@@ -11,7 +11,7 @@ use frame::Frame;
 use memories::PLACE_FLOATS;
 use memories::PLACE_POSITIONS;
 use memories::PLACES;
-use stage::layout::ENDS;
+use stage::setup::ENDS;
 use stage::setup::Setup;
 use step::place;
 

@@ -23,12 +23,12 @@ use Rattle.rows.specs.First.{firstFrom}
 use Rattle.stage.specs.Holding.{holdingOf}
 use Rattle.stage.specs.Setup.{emptySetup, withStage, nextPlace}
 use Rattle.stage.specs.Range.{inRangeOf}
-use Rattle.stage.specs.Layout.{startOf, startsOf, sizeOf}
-use Rattle.stage.specs.Lines.{lengthsOf, floatsOf}
+use Rattle.layout.specs.Layout.{startOf, startsOf, sizeOf}
+use Rattle.layout.specs.Lines.{lengthsOf, floatsOf}
 use Rattle.step.specs.Step.{processAt}
 use Rattle.refuse.specs.Shape.{depthOf, faulty}
 use Rattle.tops.specs.Tops.{topAt, topsOf}
-use Rattle.refuse.specs.Entries.{stuck}
+use Rattle.entries.specs.Entries.{stuck}
 use Rattle.refuse.specs.Refusals.{answerOf}
 use Rattle.chain.specs.Chain.{stretch, replaced}
 use Rattle.examples.specs.Rows.{RowsHold}

@@ -13,7 +13,7 @@ use Rattle.rows.specs.Rows.{Row, row, given, placeIn}
 use Rattle.rows.proofs.Bools.{true-or-false}
 use Rattle.rows.proofs.Tested.{Gives, row-hit, row-pass, row-none}
 use Rattle.stage.specs.declared.setup.Setup.{Setup}
-use Rattle.stage.specs.Layout.{neededOf}
+use Rattle.layout.specs.Layout.{neededOf}
 use Rattle.answer.specs.declared.Answer as answers
 use Rattle.answer.specs.declared.Answer.the-variants.{Accepted, Store}
 use Rattle.refuse.specs.Refusals.{chainRows, chainAnswer}

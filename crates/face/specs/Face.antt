@@ -12,7 +12,7 @@ use Rattle.answer.specs.Answer.{numberOf, placeOf}
 use Rattle.refuse.specs.Refusals.{chainAnswer}
 use Rattle.memories.specs.Sizes.{places, allPositions, allFloats}
 use Rattle.memories.specs.Memories.{zeroMemories}
-use Rattle.stage.specs.Layout.{neededOf}
+use Rattle.layout.specs.Layout.{neededOf}
 use Rattle.chain.specs.Run.{answerOn, leftOf, renderedOf}
 use Rattle.fresh.specs.Start.{startedOf}
 use Rattle.words.specs.Words.{setupOf}

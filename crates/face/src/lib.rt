@@ -13,11 +13,11 @@ ghost use Rattle.face.specs.Face.{runAnswer, runLeft, renderAnswer, rend
 mod slices;
 
 use chain::run::Outcome;
+use layout::starts::needed;
 use memories::ALL_FLOATS;
 use memories::ALL_POSITIONS;
 use memories::PLACES;
 use refuse::chain::check_chain;
-use stage::layout::needed;
 use words::WORDS;
 
 // Document 01's number and place; 101 or 102 for a call that cannot be read; 0 for an accepted one.

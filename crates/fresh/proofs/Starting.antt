@@ -5,7 +5,7 @@ use mathlib.Core.List.{List}
 use lib.Ieee.{Float}
 use lib.ListN.{length}
 use Rattle.stage.specs.declared.setup.Setup.{Setup}
-use Rattle.stage.specs.Layout.{neededOf}
+use Rattle.layout.specs.Layout.{neededOf}
 use Rattle.answer.specs.Answer.{acceptedOf}
 use Rattle.refuse.specs.Refusals.{chainAnswer}
 use Rattle.fresh.specs.Start.{clearedTo, startedOf}

@@ -6,7 +6,7 @@ use lib.Ieee.{Float, binary32}
 use lib.ListN.{length, replicate, drop}
 use Rattle.float.specs.Literal.{literal}
 use Rattle.stage.specs.declared.setup.Setup.{Setup}
-use Rattle.stage.specs.Layout.{neededOf}
+use Rattle.layout.specs.Layout.{neededOf}
 use Rattle.answer.specs.Answer.{acceptedOf}
 use Rattle.refuse.specs.Refusals.{chainAnswer}
 

@@ -4,14 +4,14 @@ ghost use mathlib.Core.Path.{_≡_};
 ghost use Prim.Native.Nat.{_≤_};
 ghost use lib.ListN.{length};
 ghost use Rattle.memories.specs.Memories.{zeroMemories};
-ghost use Rattle.stage.specs.Layout.{neededOf};
+ghost use Rattle.layout.specs.Layout.{neededOf};
 ghost use Rattle.refuse.specs.Refusals.{chainAnswer};
 ghost use Rattle.fresh.specs.Start.{clearedTo, startedOf};
 use answer::Answer;
 use answer::is_accepted;
+use layout::starts::needed;
 use memories::Memories;
 use refuse::chain::check_chain;
-use stage::layout::needed;
 use stage::setup::Setup;
 
 pub struct Started {

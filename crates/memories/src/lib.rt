@@ -1,6 +1,7 @@
 // What stages remember beside their lines: the one home of its sizes, and of which kind uses which
 // part. Every list place has room for any kind.
 ghost use mathlib.Core.Path.{_≡_};
+ghost use lib.ListN.{getD};
 ghost use Rattle.memories.specs.Memories.{zeroMemories};
 ghost use Rattle.memories.specs.Kinds.{remembered, remember};
 use frame::Frame;
@@ -63,4 +64,14 @@ pub fn keep(filtered: Filtered, floats: &mut [f32]) -> Frame
     put_frame(floats, IC1EQ, after.ic1eq);
     put_frame(floats, IC2EQ, after.ic2eq);
     filtered.output
+}
+
+// One of a list of numbers, of positions or progress, and 0 past its end.
+pub fn number_at(numbers: &[usize], i: usize) -> usize
+    ensures { λ r. ⌜ r ≡ getD (now (numbers .entry)) i 0 ⌝ }
+{
+    if i < numbers.len() {
+        return numbers[i];
+    }
+    0
 }

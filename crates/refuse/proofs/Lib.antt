@@ -1,4 +1,3 @@
-pub mod Counting
 pub mod Unrun
 pub mod Parts
 pub mod OneOutcome

@@ -14,13 +14,13 @@ use Rattle.memories.specs.Sizes.{places, placePositions}
 use Rattle.stage.specs.declared.setup.Setup.{Setup}
 use Rattle.stage.specs.Setup.{stageAt, usedOf}
 use Rattle.stage.specs.Range.{inRangeOf}
-use Rattle.stage.specs.Lines.{lostOf}
-use Rattle.stage.specs.Layout.{neededOf}
+use Rattle.layout.specs.Lines.{lostOf}
+use Rattle.layout.specs.Layout.{neededOf}
 use Rattle.answer.specs.declared.Answer.{Answer}
-use Rattle.answer.specs.declared.Answer.the-variants.{Accepted, Rate, Stages, Shape, Setting, Store, Position, Samples, Frames, Progress, Sample, Entry}
+use Rattle.answer.specs.declared.Answer.the-variants.{Accepted, Rate, Stages, Shape, Setting, Store, Position, Samples, Frames, Progress, Sample}
 use Rattle.tops.specs.Tops.{topsOf}
+use Rattle.entries.specs.Entries.{orderRows}
 use Rattle.refuse.specs.Shape.{faulty}
-use Rattle.refuse.specs.Entries.{stuck}
 
 -- ---- what the rows ask
 
@@ -68,11 +68,7 @@ stateRows setup tops positions samples progress =
 abbrev pub sampleRows : ℕ → List Float → List ℕ → List (Row Answer)
 sampleRows tops samples progress = row 10 (first (length samples) (badSample (unrunFrom tops progress) samples)) Sample ∷ []
 
--- 11, of the order
-abbrev pub orderRows : ℕ → ℕ → List ℕ → List ℕ → List (Row Answer)
-orderRows tops frames progress order = row 11 (first (length order) (stuck tops frames progress order)) Entry ∷ []
-
--- all eleven, of the floats needed and the top stages that are told
+-- all eleven (11, of the order, is `orderRows` of crate `entries`), of the floats needed and the top stages that are told
 abbrev pub allRows : Setup → ℕ → ℕ → ℕ → List Float → List ℕ → List ℕ → List ℕ → List (Row Answer)
 allRows setup needed tops floats samples positions progress order =
     chainRows setup needed floats
@@ -101,11 +97,6 @@ stateAnswer setup tops positions samples progress = firstRow (stateRows setup to
 unfoldable pub sampleAnswer : ℕ → List Float → List ℕ → Answer
 unfolding firstRow
 sampleAnswer tops samples progress = firstRow (sampleRows tops samples progress) Accepted
-
--- by row 11
-unfoldable pub orderAnswer : ℕ → ℕ → List ℕ → List ℕ → Answer
-unfolding firstRow
-orderAnswer tops frames progress order = firstRow (orderRows tops frames progress order) Accepted
 
 -- by all of them
 unfoldable pub answerOf : Setup → ℕ → List Float → List ℕ → List ℕ → List ℕ → Answer

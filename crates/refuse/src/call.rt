@@ -2,21 +2,21 @@
 // and which stages are top stages.
 ghost use mathlib.Core.Path.{_≡_};
 ghost use Rattle.rows.specs.Rows.{firstRow};
-ghost use Rattle.stage.specs.Layout.{startsOf};
+ghost use Rattle.layout.specs.Layout.{startsOf};
 ghost use Rattle.tops.specs.Tops.{topsRecord};
 ghost use Rattle.answer.specs.declared.Answer.the-variants.{Accepted};
 ghost use Rattle.refuse.specs.Refusals.{allRows, answerOf};
 use crate::chain::check_chain;
-use crate::entries::check_order;
 use crate::samples::check_samples;
 use crate::state::check_state;
 use answer::Answer;
 use answer::is_accepted;
+use entries::check_order;
+use layout::starts::starts_of;
 use memories::ALL_POSITIONS;
 use memories::PLACES;
-use stage::layout::ENDS;
-use stage::layout::number_at;
-use stage::layout::starts_of;
+use memories::number_at;
+use stage::setup::ENDS;
 use stage::setup::Setup;
 use stage::setup::used;
 use tops::Tops;

@@ -2,7 +2,6 @@
 // call may need alone. Anything may be passed in, and nothing is changed here.
 pub mod call;
 pub mod chain;
-pub mod entries;
 pub mod samples;
 mod shape;
 pub mod state;

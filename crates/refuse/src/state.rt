@@ -6,11 +6,11 @@ ghost use Rattle.rows.specs.Condition.{decide};
 ghost use Rattle.stage.specs.Setup.{usedOf};
 ghost use Rattle.refuse.specs.Refusals.{lostAt, aheadAt, stateAnswer};
 use answer::Answer;
+use layout::lines::is_lost;
 use memories::ALL_POSITIONS;
 use memories::PLACE_POSITIONS;
 use memories::PLACES;
-use stage::layout::number_at;
-use stage::lines::is_lost;
+use memories::number_at;
 use stage::setup::Setup;
 use stage::setup::used;
 

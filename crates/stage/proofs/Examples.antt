@@ -1,23 +1,17 @@
--- The edges of document 01's table of settings and of its lines, worked out by antt on the definitions. Assumes nothing.
+-- The edges of document 01's table of settings, worked out by antt on the definitions. Assumes nothing.
 use mathlib.Core.Path.{_≡_, refl}
 use mathlib.Core.Bool.{Bool, true, false}
-use mathlib.Core.List.{[], _∷_}
 use Prim.Native.Nat.{ℕ, _+_, _-_, _^_}
 use lib.IntN.{ℤ, pos, negsuc}
 use lib.Ieee.{Float, nan, fin, binary32, binary64, le}
 use Rattle.float.specs.Literal.{literal}
 use Rattle.float.specs.Finite.{finiteOf}
-use Rattle.tuning.specs.Tuning.{reverbLines}
 use Rattle.effect.specs.declared.distortion.DistortionKind.the-variants.{HardClip}
 use Rattle.filters.specs.declared.filter.FilterMode.the-variants.{LowPass}
 use Rattle.filters.specs.declared.eq_filter.EqFilterKind.the-variants.{Bell}
 use Rattle.stage.specs.declared.kind.Stage.{Stage}
 use Rattle.stage.specs.declared.kind.Stage.the-variants.{PanningControl, Distortion, Filter, EqFilter, Reverb, Delay}
-use Rattle.rows.specs.First.{firstFrom}
-use Rattle.rows.specs.Condition.{decide}
 use Rattle.stage.specs.Setup.{nextPlace}
-use Rattle.stage.specs.Holding.{holdingOf}
-use Rattle.stage.specs.Lines.{lengthsOf, floatsOf, lostOf}
 use Rattle.stage.specs.Range.{inRangeOf}
 
 abbrev pub one : Float
@@ -129,28 +123,6 @@ feedback-nan = refl
 pub panning-nan : inRangeOf (PanningControl nan) ≡ false
 unfolding inRangeOf finiteOf
 panning-nan = refl
-
--- two floats a frame of a delay
-pub delay-floats : floatsOf 44100 (delayed 480000) ≡ 960000
-unfolding floatsOf
-delay-floats = refl
-
--- a position at its line's length is lost, and one below it is not
-pub delay-last : decide (lostOf 44100 (delayed 10) (9 ∷ [])) ≡ false
-unfolding holdingOf lengthsOf firstFrom
-delay-last = refl
-
-pub delay-lost : decide (lostOf 44100 (delayed 10) (10 ∷ [])) ≡ true
-unfolding holdingOf lengthsOf firstFrom
-delay-lost = refl
-
-pub reverb-last : decide (lostOf 44100 (Reverb one one one one) (1115 ∷ 1187 ∷ [])) ≡ false
-unfolding holdingOf lengthsOf firstFrom reverbLines
-reverb-last = refl
-
-pub reverb-lost : decide (lostOf 44100 (Reverb one one one one) (1115 ∷ 1188 ∷ [])) ≡ true
-unfolding holdingOf lengthsOf firstFrom reverbLines
-reverb-lost = refl
 
 -- a delay at place 1 that owns two stages: the next place is 4, or the end before that
 pub next-4 : nextPlace (Delay 10 (pos 0) one 2) 1 16 ≡ 4

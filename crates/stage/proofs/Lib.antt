@@ -1,8 +1,5 @@
 pub mod Unnamed
 pub mod Listed
-pub mod FewLines
-pub mod LinesHeld
-pub mod Starts
 pub mod Next
 pub mod OneOutcome
 pub mod Examples

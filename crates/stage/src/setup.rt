@@ -1,10 +1,14 @@
 // A chain as one value: the rate, and a list of stages, of which the first `count` are used.
 ghost use mathlib.Core.Path.{_≡_};
-ghost use Prim.Native.Nat.{min};
+ghost use Prim.Native.Nat.{_≤_, _<_, min};
 ghost use Rattle.memories.specs.Sizes.{places};
-ghost use Rattle.stage.specs.Setup.{emptySetup, withStage};
+ghost use Rattle.stage.specs.Setup.{emptySetup, withStage, nextPlace};
 use crate::kind::Stage;
+use crate::kind::holding_of;
 use memories::PLACES;
+
+// A list of places has one end more than it has places: where the first begins, and where each ends.
+pub const ENDS: usize = PLACES + 1;
 
 // A list place: a stage with its settings, and what stands beside them.
 pub struct Slot {
@@ -56,4 +60,18 @@ pub fn with(setup: Setup, stage: Stage) -> Setup
         count: PLACES + 1,
         slots,
     }
+}
+
+// The place after the stage at i and the stages that it owns, but no further than `end`.
+pub fn next_place(stage: Stage, i: usize, end: usize) -> usize
+    ensures { λ r. ⌜ (r ≡ nextPlace stage i end) × (r ≤ end) × (i < end → i < r) ⌝ }
+{
+    if i < end {
+        let holding = holding_of(stage);
+        let n = holding.owned;
+        if n < end - i {
+            return i + 1 + n;
+        }
+    }
+    end
 }

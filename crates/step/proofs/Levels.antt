@@ -8,7 +8,7 @@ use Rattle.line.specs.Held.{Ran}
 use Rattle.memories.specs.Sizes.{places}
 use Rattle.stage.specs.declared.setup.Setup.{Setup}
 use Rattle.stage.specs.Setup.{stageAt, nextPlace}
-use Rattle.stage.specs.Layout.{sizeOf}
+use Rattle.layout.specs.Layout.{sizeOf}
 use Rattle.step.specs.Step.{stageStep, inTurn, spanOf, stepOf, processAt}
 
 module _ (setup : Setup) (starts : List ℕ) (i e : ℕ) (r : Ran) where

@@ -22,7 +22,7 @@ use Rattle.memories.specs.Places.{frontPlaces, backPlaces}
 use Rattle.stage.specs.declared.kind.Stage.{Stage}
 use Rattle.stage.specs.declared.setup.Setup.{Setup}
 use Rattle.stage.specs.Setup.{stageAt, nextPlace}
-use Rattle.stage.specs.Layout.{sizeOf}
+use Rattle.layout.specs.Layout.{sizeOf}
 use Rattle.step.specs.Step.{delayStage, stageStep, inTurn, spanOf, stepOf, processAt}
 use Rattle.step.proofs.Lent.{front-is, lent-is, home-is, home-front, home-rest, then-lent, then-home, set-front}
 use Rattle.step.proofs.Levels.{step-is, span-zero, span-shallow, span-is, place-is}

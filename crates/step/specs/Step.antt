@@ -28,7 +28,7 @@ use Rattle.stage.specs.declared.kind.Stage.{Stage}
 use Rattle.stage.specs.declared.kind.Stage.the-variants.{VolumeControl, PanningControl, Distortion, Filter, EqFilter, Reverb, Delay}
 use Rattle.stage.specs.declared.setup.Setup.{Setup}
 use Rattle.stage.specs.Setup.{stageAt, nextPlace}
-use Rattle.stage.specs.Layout.{sizeOf}
+use Rattle.layout.specs.Layout.{sizeOf}
 
 -- ---- a filter or an EQ: f makes a frame of the two that it remembers and of the next one, and the two that it then remembers stay among the floats
 

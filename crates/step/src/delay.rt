@@ -13,19 +13,19 @@ use effect::volume_control;
 use filters::eq_filter;
 use filters::filter;
 use frame::Frame;
+use layout::starts::size_between;
 use line::frames::frame_at;
 use line::frames::put_frame;
 use line::position::next_position;
 use memories::PLACE_FLOATS;
 use memories::PLACE_POSITIONS;
 use memories::keep;
+use memories::number_at;
 use memories::recall;
 use stage::kind::Stage;
-use stage::layout::ENDS;
-use stage::layout::next_place;
-use stage::layout::number_at;
-use stage::layout::size_between;
+use stage::setup::ENDS;
 use stage::setup::Setup;
+use stage::setup::next_place;
 
 fn lesser(a: usize, b: usize) -> usize
     ensures { λ r. ⌜ r ≡ min a b ⌝ }

@@ -5,7 +5,7 @@ ghost use Rattle.step.specs.Step.{processAt};
 use crate::delay::step;
 use frame::Frame;
 use memories::PLACES;
-use stage::layout::ENDS;
+use stage::setup::ENDS;
 use stage::setup::Setup;
 
 // The frame x through the stage at place i, whose own stages end at place e, with their stretch of

@@ -12,12 +12,12 @@ use Rattle.rows.specs.Condition.{Holds}
 use Rattle.memories.specs.Sizes.{places, placePositions}
 use Rattle.stage.specs.declared.setup.Setup.{Setup}
 use Rattle.stage.specs.Setup.{stageAt, usedOf}
-use Rattle.stage.specs.Layout.{neededOf}
-use Rattle.stage.specs.Lines.{linesOf}
+use Rattle.layout.specs.Layout.{neededOf}
+use Rattle.layout.specs.Lines.{linesOf}
 use Rattle.stage.specs.Range.{inRangeOf}
 use Rattle.tops.specs.Tops.{topsOf}
 use Rattle.refuse.specs.Shape.{faulty}
-use Rattle.refuse.specs.Entries.{tick}
+use Rattle.entries.specs.Entries.{tick}
 use Rattle.refuse.specs.Refusals.{unrunFrom}
 
 pub record Clear (setup : Setup) (floats : ℕ) (samples : List Float) (positions progress order : List ℕ) : Type 0 where

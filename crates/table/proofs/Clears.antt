@@ -19,10 +19,10 @@ use Rattle.rows.proofs.Tables.{no-row-answer}
 use Rattle.memories.specs.Sizes.{places, placePositions}
 use Rattle.stage.specs.declared.setup.Setup.{Setup}
 use Rattle.stage.specs.Setup.{stageAt}
-use Rattle.stage.specs.Layout.{neededOf}
-use Rattle.stage.specs.Lines.{linesOf}
+use Rattle.layout.specs.Layout.{neededOf}
+use Rattle.layout.specs.Lines.{linesOf}
 use Rattle.stage.specs.Range.{inRangeOf}
-use Rattle.stage.proofs.FewLines.{few-lines}
+use Rattle.layout.proofs.FewLines.{few-lines}
 use Rattle.answer.specs.declared.Answer.{Answer}
 use Rattle.answer.specs.declared.Answer.the-variants.{Accepted}
 use Rattle.answer.specs.Answer.{acceptedOf}

@@ -19,13 +19,13 @@ use Rattle.stage.specs.declared.setup.Setup.{Setup}
 use Rattle.stage.specs.Holding.{holdingOf}
 use Rattle.stage.specs.Setup.{nextPlace}
 use Rattle.stage.specs.Range.{inRangeOf}
-use Rattle.stage.specs.Lines.{floatsOf}
-use Rattle.stage.specs.Layout.{startOf}
+use Rattle.layout.specs.Lines.{floatsOf}
+use Rattle.layout.specs.Layout.{startOf}
 use Rattle.answer.specs.Answer.{numberOf, placeOf}
 use Rattle.tops.specs.Tops.{topsOf}
 use Rattle.refuse.specs.Shape.{faulty, depthOf}
-use Rattle.refuse.specs.declared.entries.Rule.the-variants.{Unbroken, NoStage, AtEnd, Level}
-use Rattle.refuse.specs.Entries.{ruleOf, stuck}
+use Rattle.entries.specs.declared.Rule.the-variants.{Unbroken, NoStage, AtEnd, Level}
+use Rattle.entries.specs.Entries.{ruleOf, stuck}
 use Rattle.refuse.specs.Refusals.{answerOf}
 
 -- these stages, at this rate

@@ -8,7 +8,7 @@ use lib.ListN.{length}
 use Rattle.order.specs.Order.{Allowed}
 use Rattle.order.specs.Chain.{OkFrom}
 use Rattle.rows.specs.Condition.{Holds}
-use Rattle.refuse.specs.Entries.{tick, stuck}
+use Rattle.entries.specs.Entries.{tick, stuck}
 
 module _ (tops frames : ℕ) where
   abbrev Runs : List ℕ → List ℕ → Type 0

@@ -7,7 +7,7 @@ use lib.Ieee.{Float}
 use Rattle.rows.specs.Rows.{ByTheTable}
 use Rattle.rows.proofs.Tables.{by-the-table as law}
 use Rattle.stage.specs.declared.setup.Setup.{Setup}
-use Rattle.stage.specs.Layout.{neededOf}
+use Rattle.layout.specs.Layout.{neededOf}
 use Rattle.answer.specs.declared.Answer.the-variants.{Accepted}
 use Rattle.answer.specs.Answer.{numberOf, placeOf}
 use Rattle.refuse.specs.Refusals.{chainRows, refusalRows, chainAnswer, answerOf}

@@ -1,9 +1,9 @@
 // The top stages, which no stage owns: where they stand in the list.
 ghost use mathlib.Core.Path.{_≡_};
 ghost use Rattle.tops.specs.Tops.{topsRecord};
-use stage::layout::ENDS;
-use stage::layout::next_place;
+use stage::setup::ENDS;
 use stage::setup::Setup;
+use stage::setup::next_place;
 use stage::setup::used;
 
 pub struct Tops {

@@ -6,7 +6,7 @@ use native.Mathlib.Omega.{arith}
 use borrow.Author.Needs.{needs}
 use denote.Ref.{now}
 use lib.ListN.{length}
-use Rattle.stage.specs.Layout.{neededOf}
+use Rattle.layout.specs.Layout.{neededOf}
 use Rattle.answer.specs.Answer.{acceptedOf}
 use Rattle.refuse.specs.Refusals.{chainRows, chainAnswer}
 use Rattle.refuse.proofs.Parts.{part-clear}

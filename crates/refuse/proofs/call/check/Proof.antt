@@ -3,8 +3,8 @@ use mathlib.Core.Path.{_≡_, ap, _∙_}
 use native.Mathlib.Omega.{arith}
 use lib.ListN.{getD}
 use borrow.Author.Needs.{needs}
-use Rattle.stage.specs.Layout.{neededOf}
-use Rattle.stage.proofs.Starts.{starts-at}
+use Rattle.layout.specs.Layout.{neededOf}
+use Rattle.layout.proofs.LineStarts.{starts-at}
 use Rattle.tops.specs.declared.Tops.{Tops}
 use Rattle.tops.specs.Tops.{topsOf, topsRecord}
 use Rattle.refuse.specs.Refusals.{answerOf}

@@ -10,7 +10,8 @@ use Rattle.rows.specs.Rows.{Row, firstRow}
 use Rattle.rows.proofs.Tested.{Gives}
 use Rattle.answer.specs.declared.Answer.{Answer}
 use Rattle.answer.specs.declared.Answer.the-variants.{Accepted}
-use Rattle.refuse.specs.Refusals.{allRows, chainAnswer, stateAnswer, sampleAnswer, orderAnswer}
+use Rattle.entries.specs.Entries.{orderAnswer}
+use Rattle.refuse.specs.Refusals.{allRows, chainAnswer, stateAnswer, sampleAnswer}
 use Rattle.refuse.proofs.Parts.{part-hit, part-pass}
 use Rattle.refuse.proofs.call.first_refusal.Statement.{statement}
 use Rattle.refuse.proofs.call.first_refusal.Tie as tie

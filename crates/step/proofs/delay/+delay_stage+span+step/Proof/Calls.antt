@@ -27,9 +27,9 @@ use Rattle.line.proofs.position.next_position.Reads as next-position-reads
 use Rattle.memories.proofs.keep.Reads as keep-reads
 use Rattle.memories.proofs.recall.Reads as recall-reads
 use Rattle.reverb.proofs.process.Reads as reverb-reads
-use Rattle.stage.proofs.layout.next_place.Reads as next-place-reads
-use Rattle.stage.proofs.layout.number_at.Reads as number-at-reads
-use Rattle.stage.proofs.layout.size_between.Reads as size-between-reads
+use Rattle.stage.proofs.setup.next_place.Reads as next-place-reads
+use Rattle.memories.proofs.number_at.Reads as number-at-reads
+use Rattle.layout.proofs.starts.size_between.Reads as size-between-reads
 use Rattle.step.proofs.delay.lesser.Reads as lesser-reads
 use Rattle.step.proofs.delay.put_first.Reads as put-first-reads
 

@@ -1,0 +1,5 @@
+pub mod Examples
+pub mod FewLines
+pub mod LinesHeld
+pub mod OneOutcome
+pub mod LineStarts
