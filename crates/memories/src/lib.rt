@@ -66,7 +66,7 @@ pub fn keep(filtered: Filtered, floats: &mut [f32]) -> Frame
     filtered.output
 }
 
-// One of a list of numbers, of positions or progress, and 0 past its end.
+// The number at a place of a list (of positions, of progress, of starts), and 0 past its end.
 pub fn number_at(numbers: &[usize], i: usize) -> usize
     ensures { λ r. ⌜ r ≡ getD (now (numbers .entry)) i 0 ⌝ }
 {

@@ -1,4 +1,4 @@
--- The edges of document 01's table of settings, worked out by antt on the definitions. Assumes nothing.
+-- The edges of document 01's table of settings, and of the place after a delay, worked out by antt on the definitions. Assumes nothing.
 use mathlib.Core.Path.{_≡_, refl}
 use mathlib.Core.Bool.{Bool, true, false}
 use Prim.Native.Nat.{ℕ, _+_, _-_, _^_}
