@@ -1,15 +1,15 @@
-// One stage alone on both sides: the library of `compare_face`, and kira's own effect.
+// One stage alone on both sides: the library of `compare_effects`, and kira's own effect.
 use crate::common::bits32;
 use crate::fed;
 use crate::linked::{
-    Answer, Memory, Pair, sedhavil_distortion, sedhavil_eq_filter, sedhavil_filter,
+    Memory, Pair, Processed, sedhavil_distortion, sedhavil_eq_filter, sedhavil_filter,
     sedhavil_panning_control, sedhavil_volume_control,
 };
 use crate::stage::{KINDS, Remembering, Stage, effect_of};
 use kira::info::Info;
 use kira::{Decibels, Frame};
 
-impl Answer {
+impl Processed {
     pub fn bits(&self) -> [u64; 6] {
         let memory = self.after;
         let pairs = [self.output, memory.ic1eq, memory.ic2eq];
@@ -18,8 +18,8 @@ impl Answer {
     }
 }
 
-pub fn ours(stage: Stage, memory: Memory, input: Pair) -> Answer {
-    let forgetful = |output| Answer {
+pub fn ours(stage: Stage, memory: Memory, input: Pair) -> Processed {
+    let forgetful = |output| Processed {
         output,
         after: memory,
     };
@@ -76,10 +76,10 @@ impl Kira {
         (frames.into_iter().map(pair).collect(), self.memory())
     }
 
-    pub fn step(&mut self, input: Pair) -> Answer {
+    pub fn step(&mut self, input: Pair) -> Processed {
         let mut frames = [frame(input)];
         self.effect.process(&mut frames, 1.0, &Info);
-        Answer {
+        Processed {
             output: pair(frames[0]),
             after: self.memory(),
         }

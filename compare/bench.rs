@@ -1,4 +1,4 @@
-// How many nanoseconds a frame takes: ours by way of the library of `face`, and kira's by its own source,
+// How many nanoseconds a frame takes: ours by way of the library `sedhavil`, and kira's by its own source,
 // from one driver in one run. `compare/run --bench` builds and runs it; docs/PERFORMANCE.md has what it
 // printed. It is no test: whatever it measures, its exit status is 0.
 //
@@ -99,7 +99,7 @@ impl Timed {
     }
 }
 
-// A row of a table: ours, and what it is held to.
+// A row of a table: ours, and what it is compared with.
 struct Row {
     name: String,
     sides: [Timed; 2],

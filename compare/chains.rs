@@ -1,4 +1,4 @@
-// Holds whole chains, by way of the library of `face`, to kira's own source and to document 01's table
+// Compares whole chains, run by the library `sedhavil`, with kira's own source and document 01's table
 // of refusals: bit for bit, with every NaN counted as one. `compare/run` builds and runs it; README.md
 // says more.
 //
@@ -98,7 +98,7 @@ fn counts<N: Display>(names: impl IntoIterator<Item = N>, counts: &[u64]) -> Str
 
 fn print_seen(seen: &Seen) {
     println!(
-        "accepted: {} calls, {} steps of top stages; held to kira's, with all that they left: {} steps, \
+        "accepted: {} calls, {} steps of top stages; compared with kira's, with all that they left: {} steps, \
          {} numbers",
         seen.answers[0], seen.steps, seen.steps_held, seen.numbers
     );

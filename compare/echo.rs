@@ -1,5 +1,5 @@
-// The echo of crates/block_sizes by kira's own delay and panning, on one block of 4,096 frames: prints
-// the two samples with which crates/block_sizes/stdout begins.
+// The echo of crates/test_block_sizes by kira's own delay and panning, on one block of 4,096 frames: prints
+// the two samples with which crates/test_block_sizes/stdout begins.
 #[allow(dead_code)]
 mod fed;
 #[allow(dead_code)]

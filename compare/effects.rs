@@ -1,4 +1,4 @@
-// Holds the effects that keep no line, by way of the library of `compare_face`, to kira's own source:
+// Holds the effects that keep no line, by way of the library of `compare_effects`, to kira's own source:
 // bit for bit, with every NaN counted as one. `compare/run` builds and runs it; README.md says more.
 //
 //   effects            a line for each kind: how many frames, and how many of them differ
@@ -20,7 +20,7 @@ use common::{Random, bits32, bits64};
 use directed::DIRECTED;
 use inputs::{audible, drive, gain, key, mix, panning, q, resonance, sample, volume};
 use linked::{
-    Answer, Memory, Pair, sedhavil_amplitude, sedhavil_as_f32, sedhavil_coefficients,
+    Memory, Pair, Processed, sedhavil_amplitude, sedhavil_as_f32, sedhavil_coefficients,
     sedhavil_eq_amplitude, sedhavil_weigh,
 };
 use oddities::ODDITIES;
@@ -145,8 +145,8 @@ fn check_frame(
     stage: Stage,
     memory: Memory,
     input: Pair,
-    ours: Answer,
-    kira: Answer,
+    ours: Processed,
+    kira: Processed,
 ) {
     tally.check(ours.bits() == kira.bits(), || {
         format!("{stage:?} on {memory:?}, {input:?}: ours {ours:?}, kira's {kira:?}")
@@ -191,7 +191,7 @@ fn signal(random: &mut Random) -> Vec<Pair> {
     frames
 }
 
-// A run is held to kira twice: frame after frame with what is remembered in between, and as one
+// A run is compared with kira twice: frame after frame with what is remembered in between, and as one
 // block, with what is remembered at its end.
 fn compare_runs(tally: &mut Tally, kind: &Kind, random: &mut Random) {
     for _ in 0..RUNS {
@@ -211,7 +211,7 @@ fn compare_runs(tally: &mut Tally, kind: &Kind, random: &mut Random) {
         }
         let (block, end) = Kira::new(stage, start).block(&input);
         for (&output, &kira) in outputs.iter().zip(&block) {
-            let [ours, kira] = [output, kira].map(|output| Answer {
+            let [ours, kira] = [output, kira].map(|output| Processed {
                 output,
                 after: memory,
             });
@@ -219,7 +219,7 @@ fn compare_runs(tally: &mut Tally, kind: &Kind, random: &mut Random) {
                 format!("{stage:?} on {start:?} and a block: ours {ours:?}, kira's {kira:?}")
             });
         }
-        let [ours, kira] = [memory, end].map(|after| Answer {
+        let [ours, kira] = [memory, end].map(|after| Processed {
             output: Pair::default(),
             after,
         });
@@ -289,14 +289,14 @@ fn compare_directed() -> bool {
         let found = (0..FOUND).map(|_| regrouped::find(change, &mut random));
         for input in kept.chain(found) {
             let both = |x| Pair { left: x, right: x };
-            let answer = |[x, ic1eq, ic2eq]: [f32; 3]| Answer {
+            let answer = |[x, ic1eq, ic2eq]: [f32; 3]| Processed {
                 output: both(x),
                 after: Memory {
                     ic1eq: both(ic1eq),
                     ic2eq: both(ic2eq),
                 },
             };
-            let Answer { output, after } = answer([input.x, input.ic1eq, input.ic2eq]);
+            let Processed { output, after } = answer([input.x, input.ic1eq, input.ic2eq]);
             let kira = Kira::new(input.stage, after).step(output);
             let ours = ours(input.stage, after, output);
             let written = answer(regrouped::step(Change::None, &input));

@@ -1,6 +1,6 @@
-// The functions of the crate `face`, by the declarations of the bindings, on all that a call may change.
+// The functions of the crate `sedhavil`, by the declarations of the bindings, on all that a call may change.
 use crate::table::Refusal;
-use bindings::Answer;
+use bindings::Reply;
 
 // Those of a WAV file are not compared here.
 #[allow(dead_code)]
@@ -17,10 +17,10 @@ pub struct Held {
     pub progress: Vec<usize>,
 }
 
-fn told(answer: Answer) -> Refusal {
+fn told(reply: Reply) -> Refusal {
     Refusal {
-        number: answer.number,
-        place: answer.place,
+        number: reply.number,
+        place: reply.place,
     }
 }
 
@@ -59,6 +59,20 @@ pub fn start(rate: u32, stages: &[u64], held: &mut Held) -> Refusal {
     told(bindings::start(rate, stages, positions, floats, store))
 }
 
+// The floats as the place of an accepted call, where table.rs has them.
 pub fn floats_needed(rate: u32, stages: &[u64]) -> Refusal {
-    told(bindings::floats_needed(rate, stages))
+    let room = bindings::floats_needed(rate, stages);
+    let idle = if room.number == 0 {
+        room.place
+    } else {
+        room.floats
+    };
+    assert_eq!(
+        idle, 0,
+        "an accepted call has no place, and a refused one no floats"
+    );
+    Refusal {
+        number: room.number,
+        place: room.place.max(room.floats),
+    }
 }

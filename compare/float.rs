@@ -1,18 +1,19 @@
-// Holds the crates `float` and `rounding`, by way of the library of `compare_face`, to the machine's
+// Holds the crates `float` and `rounding`, by way of the library of `compare_effects`, to the machine's
 // own operations as Rust gives them: bit for bit, with every NaN counted as one. `compare/run` builds
 // and runs it.
 //
 //   float            a line for each function: how many inputs, and how many of them differ
 //   float --all      also every f32, and every tie between two neighbouring f32 (minutes)
-//   float --sample   prints crates/float_replay/src/sample.rt: answers of Rust's, and nothing of ours
+//   float --sample   prints crates/test_float_answers/src/sample.rt: answers of Rust's, and nothing of ours
 mod common;
 #[allow(dead_code)]
 mod linked;
 
 use common::{Random, bits32, bits64};
 use linked::{
-    sedhavil_abs_f32, sedhavil_as_f32, sedhavil_at_least_hundredth_f64, sedhavil_clamp_both_f32,
-    sedhavil_clamp_unit_f32, sedhavil_clamp_unit_f64, sedhavil_sqrt_f32, sedhavil_sqrt_f64,
+    sedhavil_abs_f32, sedhavil_as_f32, sedhavil_at_least_hundredth_f64,
+    sedhavil_clamp_signed_unit_f32, sedhavil_clamp_unit_f32, sedhavil_clamp_unit_f64,
+    sedhavil_sqrt_f32, sedhavil_sqrt_f64,
 };
 use std::collections::HashSet;
 use std::hint::black_box;
@@ -63,8 +64,8 @@ const CLAMP_UNIT_F32: Pair = Pair {
     rust: |b| bits32(black_box(single(b)).clamp(0.0, 1.0)),
 };
 const CLAMP_BOTH_F32: Pair = Pair {
-    name: "clamp_both_f32",
-    ours: |b| bits32(sedhavil_clamp_both_f32(single(b))),
+    name: "clamp_signed_unit_f32",
+    ours: |b| bits32(sedhavil_clamp_signed_unit_f32(single(b))),
     rust: |b| bits32(black_box(single(b)).clamp(-1.0, 1.0)),
 };
 const CLAMP_UNIT_F64: Pair = Pair {
@@ -431,8 +432,9 @@ fn hex(bits: u64, width: u32) -> String {
     format!("0x{}", groups.collect::<Vec<_>>().join("_"))
 }
 
-fn print_array(name: &str, width: u32, numbers: impl ExactSizeIterator<Item = u64>) {
-    println!("\npub const {name}: [u{width}; {}] = [", numbers.len());
+fn print_array(what: &str, name: &str, width: u32, numbers: impl ExactSizeIterator<Item = u64>) {
+    println!("\n// {what}");
+    println!("pub const {name}: [u{width}; {}] = [", numbers.len());
     for bits in numbers {
         println!("    {},", hex(bits, width));
     }
@@ -440,10 +442,17 @@ fn print_array(name: &str, width: u32, numbers: impl ExactSizeIterator<Item = u6
 }
 
 // Two arrays of numbers: one array of pairs takes the prover ten times as long.
-fn print_table(name: &str, from: u32, to: u32, pair: &Pair, inputs: &[u64]) {
-    print_array(&format!("{name}_INPUTS"), from, inputs.iter().copied());
+fn print_table(rust: &str, name: &str, from: u32, to: u32, pair: &Pair, inputs: &[u64]) {
+    let given = format!("What `{rust}` is given.");
+    print_array(
+        &given,
+        &format!("{name}_INPUTS"),
+        from,
+        inputs.iter().copied(),
+    );
+    let answered = format!("What Rust's `{rust}` answers.");
     let answers = inputs.iter().map(|&b| (pair.rust)(b));
-    print_array(&format!("{name}_ANSWERS"), to, answers);
+    print_array(&answered, &format!("{name}_ANSWERS"), to, answers);
 }
 
 fn print_sample() {
@@ -453,9 +462,23 @@ fn print_sample() {
     println!(
         "// answered by 0x7fc0_0000 or 0x7ff8_0000_0000_0000. Printed by `compare/run --sample`."
     );
-    print_table("SQRT_F32", 32, 32, &SQRT_F32, &sample_roots(F32));
-    print_table("SQRT_F64", 64, 64, &SQRT_F64, &sample_roots(F64));
-    print_table("AS_F32", 64, 32, &AS_F32, &sample_narrowings());
+    print_table(
+        "f32::sqrt",
+        "SQRT_F32",
+        32,
+        32,
+        &SQRT_F32,
+        &sample_roots(F32),
+    );
+    print_table(
+        "f64::sqrt",
+        "SQRT_F64",
+        64,
+        64,
+        &SQRT_F64,
+        &sample_roots(F64),
+    );
+    print_table("as f32", "AS_F32", 64, 32, &AS_F32, &sample_narrowings());
 }
 
 fn main() -> ExitCode {

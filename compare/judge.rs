@@ -15,13 +15,13 @@ pub struct Seen {
     pub answers: [u64; 12],
     // 101 and 102
     pub flat: [u64; 2],
-    // steps of top stages that were accepted, and of those the ones held to kira's
+    // steps of top stages that were accepted, and of those those compared with kira's
     pub steps: u64,
     pub steps_held: u64,
     // with those of stages in delays: by kind, in document 01's order, and by depth
     pub by_kind: [u64; 7],
     pub by_depth: [u64; 4],
-    // numbers held to kira's
+    // numbers compared with kira's
     pub numbers: u64,
 }
 

@@ -1,4 +1,4 @@
-// The functions of the crate `compare_face`, as Rust sees them, and what crosses to them and back. Each
+// The functions of the crate `compare_effects`, as Rust sees them, and what crosses to them and back. Each
 // is safe to call: none takes a reference.
 
 #[repr(C)]
@@ -17,7 +17,7 @@ pub struct Memory {
 
 #[repr(C)]
 #[derive(Clone, Copy, Debug)]
-pub struct Answer {
+pub struct Processed {
     pub output: Pair,
     pub after: Memory,
 }
@@ -46,7 +46,7 @@ unsafe extern "C" {
     pub safe fn sedhavil_abs_f32(x: f32) -> f32;
     pub safe fn sedhavil_clamp_unit_f32(x: f32) -> f32;
     pub safe fn sedhavil_clamp_unit_f64(x: f64) -> f64;
-    pub safe fn sedhavil_clamp_both_f32(x: f32) -> f32;
+    pub safe fn sedhavil_clamp_signed_unit_f32(x: f32) -> f32;
     pub safe fn sedhavil_at_least_hundredth_f64(x: f64) -> f64;
     pub safe fn sedhavil_amplitude(decibels: i32) -> f32;
     pub safe fn sedhavil_eq_amplitude(gain: i32) -> f64;
@@ -60,7 +60,7 @@ unsafe extern "C" {
         g: f64,
         resonance: f64,
         mix: f32,
-    ) -> Answer;
+    ) -> Processed;
     pub safe fn sedhavil_eq_filter(
         input: Pair,
         memory: Memory,
@@ -68,7 +68,7 @@ unsafe extern "C" {
         g: f64,
         q: f64,
         gain: i32,
-    ) -> Answer;
+    ) -> Processed;
     pub safe fn sedhavil_weigh(g: f64, k: f64) -> Weights;
     pub safe fn sedhavil_coefficients(kind: u32, g: f64, q: f64, gain: i32) -> Coefficients;
 }

@@ -1,5 +1,5 @@
-// A case and what must come of it, as the program `replay` reads it: units of 16 bits, the low byte
-// first. crates/replay/src/case.rt says what stands where.
+// A case and what must come of it, as the program `test_kira_answers` reads it: units of 16 bits, the low byte
+// first. crates/test_kira_answers/src/case.rt says what stands where.
 use crate::case::{Case, What};
 use crate::common::bits32;
 use crate::face::Held;

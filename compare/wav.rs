@@ -1,4 +1,4 @@
-// A WAV file through kira's own reverb, with the settings of crates/wav_reverb: from standard input to
+// A WAV file through kira's own reverb, with the settings of crates/program_wav_reverb: from standard input to
 // standard output, kira's `process` called on so many frames at a time.
 //
 //   wav BLOCK                 renders

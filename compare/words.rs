@@ -1,4 +1,4 @@
-// The flat face's own answers, 101 and 102, and its words for a stage (docs of the crate `face`), read
+// The flat face's own answers, 101 and 102, and its words for a stage (docs of the crate `sedhavil`), read
 // plainly: what a caller's words mean, or that they mean nothing.
 use crate::table::{ALL_FLOATS, ALL_POSITIONS, Delay, PLACES, Refusal, Reverb, Stage};
 

@@ -3,9 +3,10 @@ use mathlib.Core.Bool.{Bool}
 use Prim.Native.Nat.{ℕ}
 use lib.Dec.{eqb}
 use Rattle.answer.specs.declared.Answer.{Answer}
-use Rattle.answer.specs.declared.Answer.the-variants.{Accepted, Rate, Stages, Shape, Setting, Store, Position, Samples, Frames, Progress, Sample, Entry}
+use Rattle.answer.specs.declared.Answer.the-variants.{Accepted, Rate, Stages, Shape, Setting, Store, Position}
+use Rattle.answer.specs.declared.Answer.the-variants.{Samples, Frames, Progress, Sample, Entry}
 
--- document 01's number; 0 for an accepted call
+-- a refusal's number in document 01's table; 0 for an accepted call
 abbrev pub numberOf : Answer → ℕ
 numberOf Accepted = 0
 numberOf Rate = 1
@@ -20,7 +21,7 @@ numberOf (Progress at) = 9
 numberOf (Sample at) = 10
 numberOf (Entry at) = 11
 
--- and its place
+-- the place that document 01's table gives with a refusal; 0 for an accepted call
 abbrev pub placeOf : Answer → ℕ
 placeOf Accepted = 0
 placeOf Rate = 0
@@ -35,6 +36,6 @@ placeOf (Progress at) = at
 placeOf (Sample at) = at
 placeOf (Entry at) = at
 
--- a call is accepted whose answer is no refusal
+-- a call is accepted where its answer is no refusal
 abbrev pub acceptedOf : Answer → Bool
 acceptedOf answer = eqb (numberOf answer) 0

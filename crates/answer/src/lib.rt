@@ -2,6 +2,7 @@
 ghost use mathlib.Core.Path.{_≡_};
 ghost use Rattle.answer.specs.Answer.{numberOf, placeOf, acceptedOf};
 
+// Accepted, or one of document 01's eleven refusals with its place, which is 0 where none is written.
 pub enum Answer {
     Accepted,
     // 1: the rate is below 8,000 or above 192,000
@@ -12,7 +13,7 @@ pub enum Answer {
     Shape(usize),
     // 4: at this list place, a setting that is not finite or not in its range
     Setting(usize),
-    // 5: the store is shorter than these floats
+    // 5: the line store is shorter than needed; this many floats are needed
     Store(usize),
     // 6: at this list place, a remembered position that is not on its line
     Position(usize),
@@ -20,15 +21,15 @@ pub enum Answer {
     Samples,
     // 8: more than 4,096 frames
     Frames,
-    // 9: at this top stage, a progress past the last frame or ahead of the stage before
+    // 9: at this top stage, a progress above the frame count or above that of the top stage before it
     Progress(usize),
-    // 10: this sample is not finite
+    // 10: this sample is not finite, and top stage 0 has not run its frame
     Sample(usize),
     // 11: this entry of the order cannot be run
     Entry(usize),
 }
 
-// Document 01's number of a refusal, and 0 for an accepted call.
+// A refusal's number in document 01's table, and 0 for an accepted call.
 pub fn number(answer: Answer) -> u32
     ensures { λ r. ⌜ r ≡ numberOf answer ⌝ }
 {
@@ -48,6 +49,7 @@ pub fn number(answer: Answer) -> u32
     }
 }
 
+// The place that document 01's table gives with a refusal, and 0 for an accepted call.
 pub fn place(answer: Answer) -> usize
     ensures { λ r. ⌜ r ≡ placeOf answer ⌝ }
 {
@@ -67,6 +69,7 @@ pub fn place(answer: Answer) -> usize
     }
 }
 
+// Whether the answer is no refusal.
 pub fn is_accepted(answer: Answer) -> bool
     ensures { λ r. ⌜ r ≡ acceptedOf answer ⌝ }
 {

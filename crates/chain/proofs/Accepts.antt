@@ -8,16 +8,16 @@ use lib.Ieee.{Float}
 use lib.ListN.{length, getD, set}
 use Rattle.line.specs.Held.{Held}
 use Rattle.line.proofs.Keeps.{Same}
-use Rattle.order.specs.Order.{Allowed}
-use Rattle.order.specs.Chain.{State, Chain, OkFrom, Ok, step, put, out}
-use Rattle.order.proofs.Falls.{falls-from-next}
-use Rattle.order.specs.Claims.{Stepped}
-use Rattle.order.proofs.OneStep.{one-step, made}
+use Rattle.theory_order.specs.Order.{Allowed}
+use Rattle.theory_order.specs.Chain.{State, Chain, OkFrom, Ok, step, put, out}
+use Rattle.theory_order.proofs.Falls.{falls-from-next}
+use Rattle.theory_order.specs.Claims.{Stepped}
+use Rattle.theory_order.proofs.OneStep.{one-step, made}
 use Rattle.stage.specs.declared.setup.Setup.{Setup}
-use Rattle.tops.specs.Tops.{topAt, topsOf}
-use Rattle.entries.specs.Entries.{tick}
-use Rattle.table.proofs.Clear.{Clear}
-use Rattle.tops.proofs.TopStages.{tops-few, top-le, top-next}
+use Rattle.top_stages.specs.Tops.{topAt, topsOf}
+use Rattle.order_entries.specs.Entries.{tick}
+use Rattle.theory_refusals.proofs.Clear.{Clear}
+use Rattle.top_stages.proofs.TopStages.{tops-few, top-le, top-next}
 use Rattle.chain.specs.Chain.{Room, chainOf, framesOf, Ready, Orderly, stepped, ordered}
 use Rattle.chain.specs.Demands.{Arrays}
 use Rattle.chain.proofs.Stretches.{replaced-same}

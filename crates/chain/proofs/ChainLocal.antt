@@ -1,4 +1,4 @@
--- The chain of top stages keeps to its stretches: what crate `order` asks of a chain. Assumes nothing.
+-- The chain of top stages keeps to its stretches: what crate `theory_order` asks of a chain. Assumes nothing.
 use mathlib.Core.Path.{_≡_, refl, _∙_}
 use mathlib.Core.Logic.{_≢_}
 use Prim.Native.Nat.{ℕ, suc, _<_}
@@ -6,12 +6,12 @@ use native.Mathlib.Omega.{arith}
 use native.Mathlib.Decide.{decLt}
 use Rattle.line.specs.Held.{Held}
 use Rattle.line.proofs.Keeps.{Same}
-use Rattle.order.specs.Chain.{Local, Steady}
+use Rattle.theory_order.specs.Chain.{Local, Steady}
 use Rattle.stage.specs.declared.setup.Setup.{Setup}
-use Rattle.layout.specs.Layout.{startsOf}
-use Rattle.apart.proofs.Keeps.{place-keeps}
-use Rattle.tops.specs.Tops.{topAt}
-use Rattle.tops.proofs.TopStages.{top-le, top-next, top-mono}
+use Rattle.line_layout.specs.Layout.{startsOf}
+use Rattle.theory_steps.proofs.Keeps.{place-keeps}
+use Rattle.top_stages.specs.Tops.{topAt}
+use Rattle.top_stages.proofs.TopStages.{top-le, top-next, top-mono}
 use Rattle.chain.specs.Chain.{stretch, replaced, Room, chainOf}
 use Rattle.chain.proofs.Stretches.{Fills, stretch-fills, replaced-room, stretch-later, stretch-earlier, replaced-comm}
 

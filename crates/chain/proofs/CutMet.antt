@@ -9,20 +9,20 @@ use lib.ListN.{length, getD, replicate, length-append, List·getD-append, getD-r
 use lib.Seq.{getD-append-add}
 use Rattle.float.specs.Finite.{finiteOf}
 use Rattle.line.specs.Held.{Held}
-use Rattle.order.specs.Chain.{State}
-use Rattle.order.specs.Claims.{begin, Cut}
-use Rattle.order.proofs.Cuts.{cut-parts}
+use Rattle.theory_order.specs.Chain.{State}
+use Rattle.theory_order.specs.Claims.{begin, Cut}
+use Rattle.theory_order.proofs.Cuts.{cut-parts}
 use Rattle.memories.specs.Sizes.{places}
 use Rattle.stage.specs.declared.setup.Setup.{Setup}
-use Rattle.tops.specs.Tops.{topsOf}
-use Rattle.tops.proofs.TopStages.{tops-few}
-use Rattle.refuse.proofs.Unrun.{unrun-most}
+use Rattle.top_stages.specs.Tops.{topsOf}
+use Rattle.top_stages.proofs.TopStages.{tops-few}
+use Rattle.refusals.proofs.Unrun.{unrun-most}
 use Rattle.chain.specs.Chain.{Room, chainOf, framesOf, Orderly, ordered}
 use Rattle.chain.specs.Run.{toEnd}
 use Rattle.chain.specs.Demands.{Arrays, Taken, AllAt, Finishing, CutAt, CutAnywhere, RenderCut, RenderCutAnywhere}
 use Rattle.chain.proofs.ChainLocal.{Sized, chain-local, chain-steady}
 use Rattle.chain.proofs.Accepts.{ClearOn, ready, clear-with, clear-after}
-use Rattle.chain.proofs.Running.{clear, left-is, rendered-is}
+use Rattle.chain.proofs.Running.{clear, leaves-is, rendered-is}
 use Rattle.chain.proofs.DemandsMet.{taken, whole, finishing-taken, finishing-is}
 
 module _ (setup : Setup) where
@@ -112,13 +112,13 @@ cut-anywhere setup n xs ys h p p₁ p₂ e a b k ar l₁ l₂ t fe fa fb =
     let te = finishing-taken setup s e (whole-clear setup n xs ys h p p₁ p₂ k ar l₁ l₂ t (fe .fresh) (fa .fresh)) fe in
     let ta = finishing-taken setup s₁ a (first-clear setup n xs ys h p p₁ p₂ k ar l₁ l₂ t (fe .fresh) (fa .fresh)) fa in
     let tb = finishing-taken setup s₂ b (second-clear setup n xs ys h p p₁ p₂ k ar l₁ l₂ t (fe .fresh) (fa .fresh) a (fa .orderly) (fb .fresh)) fb in
-    let left = left-is setup s₁ a ta in
-    subst (λ (x : Held). CutAt setup s s₁ (begin ys x p₂) e a b) (ap (λ (w : State Float Held). w .held) (sym left))
+    let leaves = leaves-is setup s₁ a ta in
+    subst (λ (x : Held). CutAt setup s s₁ (begin ys x p₂) e a b) (ap (λ (w : State Float Held). w .held) (sym leaves))
     (record {
       taken = te;
       first-taken = ta;
       second-taken = tb;
-      same = cut-same (left-is setup s e te) left (left-is setup s₂ b tb) (parts setup n xs ys h p p₁ p₂ k ar l₁ l₂ t (fe .fresh) (fa .fresh) a (fa .orderly) (fb .fresh) e b fe fa fb);
+      same = cut-same (leaves-is setup s e te) leaves (leaves-is setup s₂ b tb) (parts setup n xs ys h p p₁ p₂ k ar l₁ l₂ t (fe .fresh) (fa .fresh) a (fa .orderly) (fb .fresh) e b fe fa fb);
     })
 
 -- ---- rendered, from progress zero
@@ -141,10 +141,10 @@ render-cut-anywhere setup n xs ys h p k ar fresh t =
     let fb = finishing-is setup s₂ a₂ c₂ none in
     let t₁ = taken setup s₁ [] c₁ in
     let t₂ = taken setup s₂ [] c₂ in
-    let left = rendered-is setup s₁ t₁ in
-    subst (λ (x : Held). RenderCut setup s s₁ (begin ys x zero)) (ap (λ (w : State Float Held). w .held) (sym left))
+    let leaves = rendered-is setup s₁ t₁ in
+    subst (λ (x : Held). RenderCut setup s s₁ (begin ys x zero)) (ap (λ (w : State Float Held). w .held) (sym leaves))
     (record {
       first-taken = t₁;
       second-taken = t₂;
-      same = cut-same (rendered-is setup s t) left (rendered-is setup s₂ t₂) (parts setup n xs ys h p zero zero k ar refl refl t fresh none a (fa .orderly) none _ _ fe fa fb);
+      same = cut-same (rendered-is setup s t) leaves (rendered-is setup s₂ t₂) (parts setup n xs ys h p zero zero k ar refl refl t fresh none a (fa .orderly) none _ _ fe fa fb);
     })

@@ -6,28 +6,28 @@ use native.Mathlib.Omega.{arith}
 use lib.Ieee.{Float}
 use lib.ListN.{length}
 use Rattle.line.specs.Held.{Held}
-use Rattle.order.specs.Chain.{State, moment, Chain, Out, at, out}
-use Rattle.order.specs.Render.{frames, from}
-use Rattle.order.specs.Claims.{Whole, Finishes}
-use Rattle.order.proofs.OneStep.{made, one-step}
-use Rattle.order.proofs.Agree.{orders-agree}
-use Rattle.order.proofs.FrameByFrame.{frames-whole, frame-by-frame, order-renders}
-use Rattle.order.proofs.Finishing.{finishing-finishes, leaves-finishing}
+use Rattle.theory_order.specs.Chain.{State, moment, Chain, Out, at, out}
+use Rattle.theory_order.specs.Render.{frames, from}
+use Rattle.theory_order.specs.Claims.{Whole, Finishes}
+use Rattle.theory_order.proofs.OneStep.{made, one-step}
+use Rattle.theory_order.proofs.Agree.{orders-agree}
+use Rattle.theory_order.proofs.FrameByFrame.{frames-whole, frame-by-frame, order-renders}
+use Rattle.theory_order.proofs.Finishing.{finishing-finishes, leaves-finishing}
 use Rattle.stage.specs.declared.setup.Setup.{Setup}
 use Rattle.memories.specs.Sizes.{placePositions, placeFloats}
 use Rattle.stage.specs.Setup.{usedOf}
-use Rattle.layout.specs.Layout.{startOf}
+use Rattle.line_layout.specs.Layout.{startOf}
 use Rattle.answer.specs.Answer.{acceptedOf}
-use Rattle.tops.specs.Tops.{topAt, topsOf}
-use Rattle.tops.proofs.TopStages.{top-le, top-next}
-use Rattle.table.proofs.Clears.{accepted-of-clear}
+use Rattle.top_stages.specs.Tops.{topAt, topsOf}
+use Rattle.top_stages.proofs.TopStages.{top-le, top-next}
+use Rattle.theory_refusals.proofs.Clears.{accepted-of-clear}
 use Rattle.chain.specs.Chain.{stretch, Room, chainOf, framesOf, Ready, May, stepped}
-use Rattle.chain.specs.Run.{leftOf, toEnd}
+use Rattle.chain.specs.Run.{leavesOf, toEnd}
 use Rattle.chain.specs.Demands.{Arrays, Outside, Taken, AllAt, Finishing, StepByStep, heldBy, nextFrame, OneStep, StepsKeepApart, Alike, StepsStandAlone, AnyOrder, WholeFrames, RenderIsRun}
 use Rattle.chain.proofs.Stretches.{stretch-same, outside-store, outside-positions, outside-floats}
 use Rattle.chain.proofs.ChainLocal.{Sized, chain-local, chain-steady}
 use Rattle.chain.proofs.Accepts.{ClearOn, ready, orderly, clear-with, step-first, clear-stays}
-use Rattle.chain.proofs.Running.{clear, left-is, rendered-is}
+use Rattle.chain.proofs.Running.{clear, leaves-is, rendered-is}
 
 pub taken : (setup : Setup) (s : State Float Held) (order : List ℕ) → ClearOn setup s order → Taken setup s order
 taken setup s order z = ap acceptedOf (accepted-of-clear setup (length (s .held .store)) (s .samples) (s .held .positions) (s .progress) order z)
@@ -37,12 +37,12 @@ pub step-by-step : StepByStep
 step-by-step setup s k order a t =
     let z = clear setup s (k ∷ order) t in
     let first = taken setup s (k ∷ []) (clear-with setup s (k ∷ order) (k ∷ []) z (orderly setup s (k ∷ order) z .0, tt)) in
-    let one = left-is setup s (k ∷ []) first in
+    let one = leaves-is setup s (k ∷ []) first in
     let others = taken setup (stepped setup k s) order (clear-stays setup s k order a z) in
     record {
       first = first;
       others = subst (λ (w : State Float Held). Taken setup w order) (sym one) others;
-      same = left-is setup s (k ∷ order) t ∙ sym (step-first setup s k order a z order) ∙ sym (left-is setup (stepped setup k s) order others) ∙ ap (λ (w : State Float Held). leftOf setup w order) (sym one);
+      same = leaves-is setup s (k ∷ order) t ∙ sym (step-first setup s k order a z order) ∙ sym (leaves-is setup (stepped setup k s) order others) ∙ ap (λ (w : State Float Held). leavesOf setup w order) (sym one);
       step-is = one;
     }
 
@@ -85,8 +85,8 @@ module _ (setup : Setup) (s : State Float Held) (k : ℕ) (a : Arrays s) (t : Ta
         falls = w .inv .falls;
       }
 
-  keeps-apart : OneStep setup k s (leftOf setup s (k ∷ []))
-  keeps-apart = subst (OneStep setup k s) (sym (left-is setup s (k ∷ []) t)) keep-apart
+  keeps-apart : OneStep setup k s (leavesOf setup s (k ∷ []))
+  keeps-apart = subst (OneStep setup k s) (sym (leaves-is setup s (k ∷ []) t)) keep-apart
 
 pub steps-keep-apart : StepsKeepApart
 steps-keep-apart = keeps-apart
@@ -111,9 +111,9 @@ steps-stand-alone setup s t k a b u v q =
 pub any-order : AnyOrder
 any-order setup s xs ys a t u n =
     let z = clear setup s xs t in
-    left-is setup s xs t
+    leaves-is setup s xs t
     ∙ orders-agree (chainOf setup) (Room setup) (Sized setup) (chain-local setup) (framesOf (s .samples)) xs ys s (ready setup s xs a z) (orderly setup s xs z) (orderly setup s ys (clear setup s ys u)) n
-    ∙ sym (left-is setup s ys u)
+    ∙ sym (leaves-is setup s ys u)
 
 -- ---- whole frame after whole frame
 module _ (setup : Setup) where
@@ -138,12 +138,12 @@ whole-frames setup s order a t f =
     let u = finishing-taken setup s order z f in
     let r = frames-whole C (Room setup) (Sized setup) (chain-local setup) F s v (f .fresh) in
     let row = taken setup s (frames (topsOf setup) F) (clear-with setup s [] (frames (topsOf setup) F) z (r .finishes .accepted)) in
-    let left = left-is setup s order u in (
+    let leaves = leaves-is setup s order u in (
       u,
       record {
         taken = row;
-        same = left ∙ frame-by-frame C (Room setup) (Sized setup) (chain-local setup) F order s v (whole setup s order f) ∙ sym (left-is setup s (frames (topsOf setup) F) row);
-        renders = ap (from 0) left ∙ order-renders C (Room setup) (Sized setup) (chain-local setup) F order s v (whole setup s order f);
+        same = leaves ∙ frame-by-frame C (Room setup) (Sized setup) (chain-local setup) F order s v (whole setup s order f) ∙ sym (leaves-is setup s (frames (topsOf setup) F) row);
+        renders = ap (from 0) leaves ∙ order-renders C (Room setup) (Sized setup) (chain-local setup) F order s v (whole setup s order f);
       },
     )
 
@@ -161,7 +161,7 @@ render-is-run setup s a t =
       some = taken setup s order (clear-with setup s [] order z (f .accepted));
       done = subst (λ (w : State Float Held). AllAt setup F w) (sym r) (f .done);
       any = λ xs u d.
-          let left = left-is setup s xs u in
-          let g : Finishes C F s xs = record { accepted = orderly setup s xs (clear setup s xs u); done = subst (λ (w : State Float Held). AllAt setup F w) left d } in
-          left ∙ leaves-finishing C (Room setup) (Sized setup) (chain-local setup) F xs s v g ∙ sym r;
+          let leaves = leaves-is setup s xs u in
+          let g : Finishes C F s xs = record { accepted = orderly setup s xs (clear setup s xs u); done = subst (λ (w : State Float Held). AllAt setup F w) leaves d } in
+          leaves ∙ leaves-finishing C (Room setup) (Sized setup) (chain-local setup) F xs s v g ∙ sym r;
     }

@@ -10,7 +10,7 @@ use Rattle.chain.proofs.run as run
 use Rattle.chain.proofs.render as render
 
 -- what `run` and `render` leave: samples and store
-pub record Left : Type 0 where
+pub record Leaves : Type 0 where
   pub samples : List Float
   pub store : List Float
 
@@ -20,11 +20,11 @@ module _ (r r' : Outcome) (xs st xs' st' : List Float) (e : r .answer ≡ r' .an
   same-outcome : r ≡ r'
   same-outcome = λ i. record { answer = e i; memories = record { positions = f i .held .positions; floats = f i .held .floats }; progress = f i .progress }
 
-  same-left : _≡_ {A = Left} (record { samples = xs; store = st }) (record { samples = xs'; store = st' })
-  same-left = λ i. record { samples = f i .samples; store = f i .held .store }
+  same-leaves : _≡_ {A = Leaves} (record { samples = xs; store = st }) (record { samples = xs'; store = st' })
+  same-leaves = λ i. record { samples = f i .samples; store = f i .held .store }
 
-pub run-single : SingleLent {D = Left} run.run.Reads.Post (λ κs s. record { samples = now (s .1 .0); store = now (s .1 .1 .1 .0) })
-run-single κs a r r' s s' p q = (same-outcome r r' _ _ _ _ (p .0 ∙ sym (q .0)) (p .1 ∙ sym (q .1)), same-left r r' _ _ _ _ (p .0 ∙ sym (q .0)) (p .1 ∙ sym (q .1)))
+pub run-single : SingleLent {D = Leaves} run.run.Reads.Post (λ κs s. record { samples = now (s .1 .0); store = now (s .1 .1 .1 .0) })
+run-single κs a r r' s s' p q = (same-outcome r r' _ _ _ _ (p .0 ∙ sym (q .0)) (p .1 ∙ sym (q .1)), same-leaves r r' _ _ _ _ (p .0 ∙ sym (q .0)) (p .1 ∙ sym (q .1)))
 
-pub render-single : SingleLent {D = Left} render.render.Reads.Post (λ κs s. record { samples = now (s .1 .0); store = now (s .1 .1 .1 .0) })
-render-single κs a r r' s s' p q = (same-outcome r r' _ _ _ _ (p .0 ∙ sym (q .0)) (p .1 ∙ sym (q .1)), same-left r r' _ _ _ _ (p .0 ∙ sym (q .0)) (p .1 ∙ sym (q .1)))
+pub render-single : SingleLent {D = Leaves} render.render.Reads.Post (λ κs s. record { samples = now (s .1 .0); store = now (s .1 .1 .1 .0) })
+render-single κs a r r' s s' p q = (same-outcome r r' _ _ _ _ (p .0 ∙ sym (q .0)) (p .1 ∙ sym (q .1)), same-leaves r r' _ _ _ _ (p .0 ∙ sym (q .0)) (p .1 ∙ sym (q .1)))

@@ -9,16 +9,16 @@ use lib.ListN.{length, getD, set, take, drop}
 use lib.Seq.{getD-take, getD-drop}
 use Rattle.frame.specs.declared.Frame.{Frame}
 use Rattle.line.specs.Held.{Held, holds, Ran, ran}
-use Rattle.order.specs.Stretch.{part, splice}
-use Rattle.order.specs.Chain.{State, at, step, put, out}
+use Rattle.theory_order.specs.Stretch.{part, splice}
+use Rattle.theory_order.specs.Chain.{State, at, step, put, out}
 use Rattle.stage.specs.declared.setup.Setup.{Setup}
 use Rattle.memories.specs.Sizes.{places, placePositions, placeFloats}
 use Rattle.stage.specs.Setup.{usedOf}
-use Rattle.layout.specs.Layout.{startOf, startsOf}
-use Rattle.layout.proofs.LineStarts.{starts-at, start-le}
-use Rattle.step.specs.Step.{processAt}
-use Rattle.tops.specs.Tops.{topAt, topsRecord}
-use Rattle.tops.proofs.TopStages.{places-at, top-past, top-le, tops-few}
+use Rattle.line_layout.specs.Layout.{startOf, startsOf}
+use Rattle.line_layout.proofs.LineStarts.{starts-at, start-le}
+use Rattle.stage_step.specs.Step.{processAt}
+use Rattle.top_stages.specs.Tops.{topAt, topsRecord}
+use Rattle.top_stages.proofs.TopStages.{places-at, top-past, top-le, tops-few}
 use Rattle.line.specs.Frames.{frameAt}
 use Rattle.chain.specs.Chain.{stretch, replaced, state, Ready, May, stepped}
 

@@ -6,12 +6,12 @@ use Prim.Native.Nat.{ℕ}
 use lib.Ieee.{Float}
 use lib.ListN.{length}
 use Rattle.line.specs.Held.{Held}
-use Rattle.order.specs.Chain.{State}
+use Rattle.theory_order.specs.Chain.{State}
 use Rattle.stage.specs.declared.setup.Setup.{Setup}
 use Rattle.answer.specs.Answer.{acceptedOf}
-use Rattle.table.proofs.Clears.{clear-of-accepted}
+use Rattle.theory_refusals.proofs.Clears.{clear-of-accepted}
 use Rattle.chain.specs.Chain.{Ready, Orderly, ordered}
-use Rattle.chain.specs.Run.{answerOn, leftBy, leftOf, toEnd, renderedOf}
+use Rattle.chain.specs.Run.{answerOn, leavesBy, leavesOf, toEnd, renderedOf}
 use Rattle.chain.specs.Demands.{Arrays, Taken}
 use Rattle.chain.proofs.Accepts.{ClearOn, ready, orderly}
 
@@ -29,21 +29,21 @@ module _ (setup : Setup) (s : State Float Held) where
     can-run a t = let z = clear t in record { can = ready setup s order a z; runs = orderly setup s order z }
 
     -- these entries are run, or nothing is
-    pub left-by : (entries : List ℕ) → Taken setup s order → leftBy setup s order entries ≡ ordered setup s entries
-    left-by entries t = rw t
+    pub leaves-by : (entries : List ℕ) → Taken setup s order → leavesBy setup s order entries ≡ ordered setup s entries
+    leaves-by entries t = rw t
 
-    pub left-by-not : (entries : List ℕ) → acceptedOf (answerOn setup s order) ≡ false → leftBy setup s order entries ≡ s
-    left-by-not entries t = rw t
+    pub leaves-by-not : (entries : List ℕ) → acceptedOf (answerOn setup s order) ≡ false → leavesBy setup s order entries ≡ s
+    leaves-by-not entries t = rw t
 
-    pub left-is : Taken setup s order → leftOf setup s order ≡ ordered setup s order
-    left-is t = left-by order t
+    pub leaves-is : Taken setup s order → leavesOf setup s order ≡ ordered setup s order
+    leaves-is t = leaves-by order t
 
-    pub left-not : acceptedOf (answerOn setup s order) ≡ false → leftOf setup s order ≡ s
-    left-not t = left-by-not order t
+    pub leaves-not : acceptedOf (answerOn setup s order) ≡ false → leavesOf setup s order ≡ s
+    leaves-not t = leaves-by-not order t
 
   -- ---- and every stage to the last frame
   pub rendered-is : Taken setup s [] → renderedOf setup s ≡ ordered setup s (toEnd setup s)
-  rendered-is t = left-by [] (toEnd setup s) t
+  rendered-is t = leaves-by [] (toEnd setup s) t
 
   pub rendered-not : acceptedOf (answerOn setup s []) ≡ false → renderedOf setup s ≡ s
-  rendered-not t = left-by-not [] (toEnd setup s) t
+  rendered-not t = leaves-by-not [] (toEnd setup s) t

@@ -11,21 +11,21 @@ use lib.ListN.{length, getD, drop}
 use lib.Seq.{getD-drop}
 use Rattle.float.specs.Finite.{finiteOf}
 use Rattle.line.specs.Held.{Held, ran}
-use Rattle.order.specs.Stretch.{part}
-use Rattle.order.specs.Chain.{State, at, out}
-use Rattle.order.specs.Claims.{Stepped}
-use Rattle.order.proofs.OneStep.{one-step, lag, made}
-use Rattle.order.proofs.Stretches.{length-part}
+use Rattle.theory_order.specs.Stretch.{part}
+use Rattle.theory_order.specs.Chain.{State, at, out}
+use Rattle.theory_order.specs.Claims.{Stepped}
+use Rattle.theory_order.proofs.OneStep.{one-step, lag, made}
+use Rattle.theory_order.proofs.Stretches.{length-part}
 use Rattle.stage.specs.declared.setup.Setup.{Setup}
 use Rattle.memories.specs.Sizes.{placePositions}
 use Rattle.stage.specs.Setup.{stageAt, usedOf}
-use Rattle.layout.specs.Layout.{startsOf}
-use Rattle.layout.specs.Lines.{linesOf}
-use Rattle.apart.proofs.OnLines.{Good, place-stays, good-part, good-splice}
-use Rattle.tops.specs.Tops.{topAt, topsOf}
-use Rattle.refuse.specs.Refusals.{unrunFrom}
-use Rattle.refuse.proofs.Unrun.{unrun-some}
-use Rattle.tops.proofs.TopStages.{top-le, top-next}
+use Rattle.line_layout.specs.Layout.{startsOf}
+use Rattle.line_layout.specs.Lines.{linesOf}
+use Rattle.theory_steps.proofs.OnLines.{Good, place-stays, good-part, good-splice}
+use Rattle.top_stages.specs.Tops.{topAt, topsOf}
+use Rattle.refusals.specs.Refusals.{unrunFrom}
+use Rattle.refusals.proofs.Unrun.{unrun-some}
+use Rattle.top_stages.proofs.TopStages.{top-le, top-next}
 use Rattle.line.specs.Frames.{frameAt}
 use Rattle.chain.specs.Chain.{stretch, replaced, Room, chainOf, framesOf, Ready, May, stepped}
 use Rattle.chain.proofs.ChainLocal.{Sized, chain-local}

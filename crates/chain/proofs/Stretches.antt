@@ -6,13 +6,13 @@ use native.Mathlib.Omega.{arith}
 use lib.ListN.{length}
 use Rattle.line.specs.Held.{Held, holds}
 use Rattle.line.proofs.Keeps.{Same}
-use Rattle.order.specs.Stretch.{splice}
-use Rattle.order.proofs.Stretches.{length-part, length-splice, part-before, part-after, part-same, drop-after, splice-comm}
+use Rattle.theory_order.specs.Stretch.{splice}
+use Rattle.theory_order.proofs.Stretches.{length-part, length-splice, part-before, part-after, part-same, drop-after, splice-comm}
 use Rattle.stage.specs.declared.setup.Setup.{Setup}
 use Rattle.memories.specs.Sizes.{placePositions, placeFloats}
 use Rattle.stage.specs.Setup.{usedOf}
-use Rattle.layout.specs.Layout.{startOf, neededOf}
-use Rattle.layout.proofs.LineStarts.{start-le}
+use Rattle.line_layout.specs.Layout.{startOf, neededOf}
+use Rattle.line_layout.proofs.LineStarts.{start-le}
 use Rattle.chain.specs.Chain.{stretch, replaced, Room}
 use Rattle.chain.specs.Demands.{Outside}
 

@@ -1,14 +1,14 @@
 -- Demand 1 is met, as specs/Table.antt states it. Assumes nothing.
 use native.Mathlib.Omega.{arith}
 use lib.ListN.{length}
-use Rattle.table.proofs.TableHolds.{start-by-the-table, by-the-table}
-use Rattle.table.proofs.Clears.{start-few}
-use Rattle.fresh.proofs.Starting.{started, not-started}
+use Rattle.theory_refusals.proofs.TableHolds.{start-by-the-table, by-the-table}
+use Rattle.theory_refusals.proofs.Clears.{start-few}
+use Rattle.fresh_start.proofs.Starting.{started, not-started}
 use Rattle.chain.specs.Table.{AnswersTabled, RenderUnchanged, StartsTabled}
-use Rattle.chain.proofs.Running.{clear, left-is, left-not, rendered-not}
+use Rattle.chain.proofs.Running.{clear, leaves-is, leaves-not, rendered-not}
 
 pub answers-tabled : AnswersTabled
-answers-tabled setup s order = record { answer = by-the-table setup (length (s .held .store)) (s .samples) (s .held .positions) (s .progress) order; unchanged = left-not setup s order; rendered = left-is setup s order; all-used = λ t. omega (arith, clear setup s order t .few) }
+answers-tabled setup s order = record { answer = by-the-table setup (length (s .held .store)) (s .samples) (s .held .positions) (s .progress) order; unchanged = leaves-not setup s order; rendered = leaves-is setup s order; all-used = λ t. omega (arith, clear setup s order t .few) }
 
 pub render-unchanged : RenderUnchanged
 render-unchanged = rendered-not

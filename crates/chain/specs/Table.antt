@@ -1,6 +1,7 @@
--- Demand 1 of the user, about what `run`, `render` and `start` answer and leave: "a refusal comes exactly under its condition,
--- gives its number and place, and changes no sample, line, memory or progress". The rows of the table, each with its number,
--- condition and place, are crate `refuse`'s specs/Refusals.antt; `ByTheTable` is crate `rows`'s. Definitions only.
+-- Demand 1 of the user, about what `run`, `render` and `start` answer and leave: "a refusal comes exactly under its
+-- condition, gives its number and place, and changes no sample, line, memory or progress". The rows of the table, each
+-- with its number, condition and place, are in specs/Refusals.antt of crate refusals; `ByTheTable` is in crate
+-- theory_tables. Definitions only.
 use mathlib.Core.Path.{_≡_}
 use mathlib.Core.Bool.{true, false}
 use mathlib.Core.List.{List, []}
@@ -8,37 +9,41 @@ use Prim.Native.Nat.{ℕ}
 use lib.Ieee.{Float}
 use lib.ListN.{length}
 use Rattle.line.specs.Held.{Held}
-use Rattle.order.specs.Chain.{State}
-use Rattle.rows.specs.Rows.{ByTheTable}
+use Rattle.theory_order.specs.Chain.{State}
+use Rattle.theory_tables.specs.Rows.{ByTheTable}
 use Rattle.stage.specs.declared.setup.Setup.{Setup}
 use Rattle.stage.specs.Setup.{usedOf}
-use Rattle.layout.specs.Layout.{neededOf}
+use Rattle.line_layout.specs.Layout.{neededOf}
 use Rattle.answer.specs.declared.Answer.the-variants.{Accepted}
 use Rattle.answer.specs.Answer.{numberOf, placeOf, acceptedOf}
-use Rattle.refuse.specs.Refusals.{chainRows, refusalRows, chainAnswer}
+use Rattle.refusals.specs.Refusals.{chainRows, refusalRows, chainAnswer}
 use Rattle.chain.specs.Chain.{ordered}
-use Rattle.chain.specs.Run.{answerOn, leftOf, renderedOf}
-use Rattle.fresh.specs.Start.{clearedTo, startedOf}
+use Rattle.chain.specs.Run.{answerOn, leavesOf, renderedOf}
+use Rattle.fresh_start.specs.Start.{clearedTo, startedOf}
 
+-- a call of `run` answers by the table: "a refusal comes exactly under its condition, gives its number and place, and
+-- changes no sample, line, memory or progress"
 pub record Tabled (setup : Setup) (s : State Float Held) (order : List ℕ) : Type 0 where
   pub answer : ByTheTable numberOf placeOf
       (refusalRows setup (length (s .held .store)) (s .samples) (s .held .positions) (s .progress) order) Accepted
       (answerOn setup s order)
-  pub unchanged : acceptedOf (answerOn setup s order) ≡ false → leftOf setup s order ≡ s
+  pub unchanged : acceptedOf (answerOn setup s order) ≡ false → leavesOf setup s order ≡ s
   -- "what meets none of document 01's eleven refusals is rendered": the order is run, entry by entry
-  pub rendered : acceptedOf (answerOn setup s order) ≡ true → leftOf setup s order ≡ ordered setup s order
-  -- and every stage of the list has a place
+  pub rendered : acceptedOf (answerOn setup s order) ≡ true → leavesOf setup s order ≡ ordered setup s order
+  -- where a call is accepted, every stage of the list has a place: none is passed over
   pub all-used : acceptedOf (answerOn setup s order) ≡ true → usedOf setup ≡ setup .count
 
--- of every call of `run`
+-- "any rate, settings, samples, memories, line store, progress and step order may be passed in": every call of `run`
+-- answers by the table
 abbrev pub AnswersTabled : Type 0
 AnswersTabled = (setup : Setup) (s : State Float Held) (order : List ℕ) → Tabled setup s order
 
--- and `render`, which answers as `run` does with an empty order, changes nothing where that is refused
+-- `render`, which answers as `run` does with an empty order, changes nothing where that is refused
 abbrev pub RenderUnchanged : Type 0
-RenderUnchanged = (setup : Setup) (s : State Float Held) → acceptedOf (answerOn setup s []) ≡ false → renderedOf setup s ≡ s
+RenderUnchanged = (setup : Setup) (s : State Float Held) → acceptedOf (answerOn setup s []) ≡ false
+    → renderedOf setup s ≡ s
 
--- "a fresh start makes checks 1 to 5, then clears the needed floats"
+-- "a fresh start makes checks 1 to 5, then clears the needed floats"; refused, it changes no float
 pub record StartTabled (setup : Setup) (store : List Float) : Type 0 where
   pub answer : ByTheTable numberOf placeOf (chainRows setup (neededOf setup) (length store)) Accepted
       (chainAnswer setup (neededOf setup) (length store))
@@ -47,6 +52,6 @@ pub record StartTabled (setup : Setup) (store : List Float) : Type 0 where
       → startedOf setup store ≡ clearedTo (neededOf setup) store
   pub all-used : acceptedOf (chainAnswer setup (neededOf setup) (length store)) ≡ true → usedOf setup ≡ setup .count
 
--- of every call of `start`
+-- every call of `start` answers by rows 1 to 5 of the table
 abbrev pub StartsTabled : Type 0
 StartsTabled = (setup : Setup) (store : List Float) → StartTabled setup store

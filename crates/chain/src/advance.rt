@@ -3,8 +3,8 @@ ghost use mathlib.Core.Path.{_≡_};
 ghost use mathlib.Core.Bool.{cond};
 ghost use Prim.Native.Nat.{_-_, _<_};
 ghost use lib.ListN.{getD, replicate};
-ghost use Rattle.layout.specs.Layout.{startsOf};
-ghost use Rattle.tops.specs.Tops.{topsOf, topsRecord};
+ghost use Rattle.line_layout.specs.Layout.{startsOf};
+ghost use Rattle.top_stages.specs.Tops.{topsOf, topsRecord};
 ghost use Rattle.chain.specs.Chain.{state, framesOf, Ready, May, Orderly, stepped, ordered};
 ghost use Rattle.chain.specs.Run.{toEnd};
 use frame::Frame;
@@ -13,9 +13,9 @@ use memories::PLACE_POSITIONS;
 use memories::PLACES;
 use stage::setup::ENDS;
 use stage::setup::Setup;
-use step::place;
+use stage_step::place;
 
-// Top stage k is run on its next frame.
+// Runs top stage k on its next frame.
 fn advance(
     k: usize,
     setup: Setup,
@@ -62,7 +62,7 @@ fn advance(
     progress[k] = done + 1;
 }
 
-// An order, entry by entry.
+// Runs an order, entry by entry.
 fn advance_all(
     order: &[usize],
     setup: Setup,
@@ -98,7 +98,7 @@ fn advance_all(
     }
 }
 
-// Top stage k is run on as many more frames as the block has for it.
+// Runs top stage k on all the frames that it has left.
 fn advance_to_end(
     k: usize,
     setup: Setup,
@@ -133,7 +133,7 @@ fn advance_to_end(
     }
 }
 
-// Every top stage, one after another, is run to the last frame.
+// Runs every top stage to the last frame, one stage after another.
 fn finish(
     tops: usize,
     setup: Setup,
@@ -168,7 +168,7 @@ fn finish(
     }
 }
 
-// What an accepted call runs: the order, or, where that is asked for, every stage to the last frame.
+// Runs what an accepted call asks for: every stage to the last frame where `to_end` is set, else the order.
 pub(crate) fn proceed(
     to_end: bool,
     order: &[usize],

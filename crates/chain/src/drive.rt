@@ -1,17 +1,18 @@
-// What `run` and `render` share: the checks, and, where none refuses, the steps.
+// What `run` and `render` share: the checks and, where none refuses, the steps.
 ghost use mathlib.Core.Path.{_≡_};
 ghost use mathlib.Core.Bool.{cond};
 ghost use Rattle.chain.specs.Chain.{state};
-ghost use Rattle.chain.specs.Run.{answerOn, leftBy, toEnd};
+ghost use Rattle.chain.specs.Run.{answerOn, leavesBy, toEnd};
 use crate::advance::proceed;
 use crate::run::Outcome;
 use answer::is_accepted;
 use memories::Memories;
 use memories::PLACES;
-use refuse::call::check;
+use refusals::call::check;
 use stage::setup::Setup;
 
-// The order is checked, and run unless every stage is to go to the last frame.
+// Checks a call with this order. Where it is accepted, runs every stage to the last frame if `to_end` is
+// set, else the order. Where it is refused, changes nothing.
 pub(crate) fn drive(
     setup: Setup,
     samples: &mut [f32],
@@ -22,8 +23,8 @@ pub(crate) fn drive(
     to_end: bool,
 ) -> Outcome
     ensures answer { λ r. ⌜ r .answer ≡ answerOn setup (state (now (samples .entry)) (now (store .entry)) (memories .positions) (memories .floats) progress) (now (order .entry)) ⌝ }
-    ensures left { λ r. ⌜ state (now (samples .exit)) (now (store .exit)) (r .memories .positions) (r .memories .floats) (r .progress)
-        ≡ leftBy setup (state (now (samples .entry)) (now (store .entry)) (memories .positions) (memories .floats) progress) (now (order .entry))
+    ensures leaves { λ r. ⌜ state (now (samples .exit)) (now (store .exit)) (r .memories .positions) (r .memories .floats) (r .progress)
+        ≡ leavesBy setup (state (now (samples .entry)) (now (store .entry)) (memories .positions) (memories .floats) progress) (now (order .entry))
         (cond «to_end» (toEnd setup (state (now (samples .entry)) (now (store .entry)) (memories .positions) (memories .floats) progress)) (now (order .entry))) ⌝ }
 {
     let remembered = memories.positions;

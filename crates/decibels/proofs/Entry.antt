@@ -1,4 +1,4 @@
--- An entry of a table is the float nearest to a power of ten, by a test that antt computes. Assumes nothing.
+-- An entry of a list is the float nearest to a power of ten, by a test that antt computes. Assumes nothing.
 use mathlib.Core.Path.{_≡_, sym, ap, _∙_, subst}
 use mathlib.Core.Logic.{inr}
 use mathlib.Core.Bool.{Bool, false, _&&_}
@@ -9,8 +9,8 @@ use lib.Dec.{T, leb, ltb, leb→le, ltb→lt}
 use lib.Pow.{pow-pos}
 use lib.Ieee.{Format, prec, low, hid, ones, ofBits, units}
 use lib.Ieee.Fits.{and-l, and-r}
-use Rattle.nearest.specs.Nearest.{Nearest}
-use Rattle.nearest.proofs.Kept.{Kept, kept-nearest}
+use Rattle.theory_nearest.specs.Nearest.{Nearest}
+use Rattle.theory_nearest.proofs.Kept.{Kept, kept-nearest}
 use Rattle.float.proofs.Fields.{suc-pred, hid-twice}
 use Rattle.rounding.proofs.Pack.{pack}
 

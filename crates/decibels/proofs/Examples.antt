@@ -1,4 +1,4 @@
--- Values by hand: at -20 decibels, and where the tables begin and end. Assumes nothing.
+-- Values by hand: at -20 decibels, and where the lists begin and end. Assumes nothing.
 use mathlib.Core.Path.{_≡_, refl}
 use lib.IntN.{pos, negsuc}
 use lib.Ieee.{nan, binary32, binary64, ofBits, round}

@@ -1,7 +1,7 @@
 pub mod Places
-pub mod Table
+pub mod Each
 pub mod Entry
 pub mod Rule
-pub mod Tables
+pub mod AmplitudeRules
 pub mod OneOutcome
 pub mod Examples

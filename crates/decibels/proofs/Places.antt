@@ -1,4 +1,4 @@
--- From a whole number of decibels to a table's entry, for both functions: `suc b` entries stand below 0 dB and 25 from 0 dB on, so the entry of z decibels is at z + suc b.
+-- From a whole number of decibels to a list's entry, for both functions: `suc b` entries stand below 0 dB and 25 from 0 dB on, so the entry of z decibels is at z + suc b.
 -- The code holds z and the sum as 32 bits, and reads them back: `toZ` and `ofZ`. Assumes nothing.
 use mathlib.Core.Path.{_≡_, refl, sym, ap, _∙_, subst}
 use mathlib.Core.Bool.{Bool, true, false, cond, false≢true}

@@ -1,4 +1,4 @@
--- From the nearest to 10 ^ i / 10 ^ suc b at each place i of a table to the nearest to 10 ^ (z / j) at each number of decibels z. Assumes nothing.
+-- From the nearest to 10 ^ i / 10 ^ suc b at each place i of a list to the nearest to 10 ^ (z / j) at each number of decibels z. Assumes nothing.
 use mathlib.Core.Path.{_≡_, sym, ap, _∙_, subst}
 use mathlib.Core.Bool.{Bool, false, cond}
 use mathlib.Core.List.{List}
@@ -12,7 +12,7 @@ use lib.Signed.{_≤ℤ_}
 use lib.ListN.{getD}
 use lib.Ieee.{Float, nan, Format, ofBits}
 use borrow.Author.Tests.{lt-ltb}
-use Rattle.nearest.specs.Nearest.{Nearest, Nearer, sum, product}
+use Rattle.theory_nearest.specs.Nearest.{Nearest, Nearer, sum, product}
 use Rattle.decibels.specs.Power.{NearestPower}
 use Rattle.decibels.proofs.Places.{entryOf}
 

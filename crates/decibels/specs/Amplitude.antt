@@ -1,5 +1,7 @@
--- The amplitudes of whole decibels, by table. Definitions only.
--- That each entry is the float nearest to the power of ten, and the only one, is proved by `amplitude-nearest` and `eq-amplitude-nearest` of proofs/Tables.antt, in the words of specs/Nearest.antt of crate `nearest`.
+-- The amplitudes of whole decibels, in two lists. Definitions only.
+-- That each entry is the float nearest to its power of ten is proved by `amplitude-nearest` and `eq-amplitude-nearest`
+-- of proofs/AmplitudeRules.antt, in the words of specs/Nearest.antt of crate `theory_nearest`; `only-nearest` of that
+-- crate proves that there is no other.
 use Prim.Native.Nat.{ℕ, _+_, _-_}
 use mathlib.Core.Bool.{cond}
 use mathlib.Core.List.{List, [], _∷_}
@@ -48,13 +50,14 @@ eqAmplitudes =
     0x400a_cc17_9a05_da10 ∷ 0x400c_6294_05ab_4a3e ∷ 0x400e_1126_6902_9782 ∷
     0x400f_d93c_1f52_6de0 ∷ []
 
--- A number k below 0 is `negsuc (-k - 1)`. At -60 dB and below the amplitude is 0, and above 24 dB there is none.
+-- The amplitude of whole decibels: "0 dB is 1; at or below -60 dB is 0"; NaN above 24 dB, which no stage may have.
+-- A level below 0 is `negsuc k`, which is -(k + 1).
 unfoldable pub amplitudeOf : ℤ → Float
 unfolding amplitudes
 amplitudeOf (pos k) = cond (ltb k 25) (ofBits binary32 (getD amplitudes (k + 59) 0)) nan
 amplitudeOf (negsuc k) = cond (ltb k 59) (ofBits binary32 (getD amplitudes (58 - k) 0)) (literal binary32 0 1)
 
--- EQ's, which has none beyond 24 dB either way
+-- the amplitude of an EQ's gain in whole decibels; NaN below -24 dB and above 24 dB, which no EQ may have
 unfoldable pub eqAmplitudeOf : ℤ → Float
 unfolding eqAmplitudes
 eqAmplitudeOf (pos k) = cond (ltb k 25) (ofBits binary64 (getD eqAmplitudes (k + 24) 0)) nan

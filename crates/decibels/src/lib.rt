@@ -1,5 +1,5 @@
-// Whole decibels to amplitudes: the two tables that stand for kira's `powf`. Each entry is the float
-// nearest to the power of ten, which proofs/Tables.antt shows by one computed test over each list.
+// Whole decibels to amplitudes, from two lists in place of kira's `powf`. Each entry is the float
+// nearest to its power of ten: proofs/AmplitudeRules.antt shows it by one computed test over each list.
 ghost use mathlib.Core.Path.{_≡_};
 ghost use Rattle.decibels.specs.Amplitude.{amplitudeOf, eqAmplitudeOf};
 use float::bits::from_bits_f32;
@@ -146,8 +146,8 @@ const EQ_AMPLITUDES: [u64; 49] = [
     0x400f_d93c_1f52_6de0,
 ];
 
-// kira's `Decibels::as_amplitude`, of a whole number of decibels: 0 dB is 1, and from -60 dB down it
-// is silence. No stage may have more than 24 dB; the amplitude of such a level is NaN.
+// kira's `Decibels::as_amplitude` for whole decibels: the f32 nearest to 10^(db/20). 0 dB gives 1; at or
+// below -60 dB the amplitude is 0. Above 24 dB, which no stage may have, it is NaN.
 pub fn amplitude(db: i32) -> f32
     ensures { λ r. ⌜ r ≡ amplitudeOf db ⌝ }
 {
@@ -161,8 +161,8 @@ pub fn amplitude(db: i32) -> f32
     from_bits_f32(AMPLITUDES[place])
 }
 
-// The amplitude of an EQ's gain, whose square is that of the level. No EQ may have a gain beyond 24
-// dB either way; the amplitude of such a gain is NaN.
+// The amplitude that an EQ works with: the f64 nearest to 10^(gain/40), for a gain in whole dB. A gain
+// below -24 or above 24 dB, which no EQ may have, gives NaN.
 pub fn eq_amplitude(gain: i32) -> f64
     ensures { λ r. ⌜ r ≡ eqAmplitudeOf gain ⌝ }
 {

@@ -1,5 +1,5 @@
-// kira's `eq_filter.rs`: three kinds, each with its six coefficients in f64, worked out by the
-// operations of `Coefficients::calculate` in their order from the caller's g.
+// kira's `eq_filter.rs`: three kinds. The six coefficients of each are worked out in f64 from the
+// caller's g, by the operations of `Coefficients::calculate` in their order.
 ghost use mathlib.Core.Path.{_≡_};
 ghost use Rattle.filters.specs.EqFilter.{bellOf, lowShelfOf, highShelfOf, coefficientsOf, eqOf};
 use crate::narrowed::run_narrowed;
@@ -12,12 +12,15 @@ use integrators::weigh;
 use rounding::narrow::as_f32;
 use rounding::sqrt::sqrt_f64;
 
+// kira's `EqFilterKind`: the gain applies around a frequency (bell), around and below it (low shelf) or
+// around and above it (high shelf).
 pub enum EqFilterKind {
     Bell,
     LowShelf,
     HighShelf,
 }
 
+// kira's `Coefficients`: a1, a2 and a3 weigh the step, m0, m1 and m2 weigh the frame, v1 and v2.
 pub struct Coefficients {
     pub a1: f64,
     pub a2: f64,
@@ -73,6 +76,9 @@ fn high_shelf(g: f64, q: f64, a: f64) -> Coefficients
 }
 
 impl Coefficients {
+    // kira's `Coefficients::calculate`, from g, the tangent that kira works out from the frequency. A q
+    // below 0.01 counts as 0.01. The gain is in whole dB; beyond 24 dB either way, which a chain
+    // refuses, its amplitude is NaN.
     pub fn calculate(kind: EqFilterKind, g: f64, q: f64, gain: i32) -> Self
         ensures { λ r. ⌜ r ≡ coefficientsOf kind g q gain ⌝ }
     {
@@ -86,6 +92,8 @@ impl Coefficients {
     }
 }
 
+// One frame through an EQ: the frame that comes out, and what is remembered after it. The settings are
+// those of `Coefficients::calculate`.
 pub fn process(
     input: Frame,
     memory: Integrators,

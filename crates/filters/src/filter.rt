@@ -1,5 +1,5 @@
 // kira's `filter.rs`. Its coefficients are worked out in f64 from the caller's g, the tangent that
-// kira takes of the cutoff, and are narrowed where the Rust says `as f32`.
+// kira works out from the cutoff, and are narrowed where the Rust says `as f32`.
 ghost use mathlib.Core.Path.{_≡_};
 ghost use Rattle.filters.specs.Filter.{outputOf, filterOf};
 use crate::narrowed::run_narrowed;
@@ -11,6 +11,8 @@ use integrators::Parts;
 use integrators::weigh;
 use rounding::narrow::as_f32;
 
+// kira's `FilterMode`: removes what is above the cutoff (low-pass), above and below it (band-pass),
+// below it (high-pass) or around it (notch).
 pub enum FilterMode {
     LowPass,
     BandPass,
@@ -18,7 +20,7 @@ pub enum FilterMode {
     Notch,
 }
 
-// The frame that the mode takes of the two parts, before the mix.
+// What the mode makes of the input and the two parts, before the mix.
 fn output(mode: FilterMode, input: Frame, parts: Parts, k: f32) -> Frame
     ensures { λ r. ⌜ r ≡ outputOf mode input parts k ⌝ }
 {
@@ -32,6 +34,8 @@ fn output(mode: FilterMode, input: Frame, parts: Parts, k: f32) -> Frame
     }
 }
 
+// One frame through a filter: the frame that comes out, and what is remembered after it. g is the
+// tangent that kira works out from the cutoff; resonance and mix are clamped to 0..1.
 pub fn process(
     input: Frame,
     memory: Integrators,

@@ -1,5 +1,5 @@
-// kira's two effects that remember two frames, one module a kind: each takes one frame, its settings
-// and what it remembers, and gives the frame that comes out and what it remembers then.
+// kira's two effects that remember two frames, the filter and the EQ. Each takes one frame, what it
+// remembers and its settings, and gives the frame that comes out and what it remembers after it.
 pub mod eq_filter;
 pub mod filter;
 mod narrowed;

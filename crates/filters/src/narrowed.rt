@@ -1,5 +1,5 @@
-// What both effects do with their weights: they are narrowed where the Rust says `as f32`, and the
-// two remembered frames are renewed.
+// The step of both effects: a1, a2 and a3 are narrowed, as the Rust says by `as f32`, and the two
+// remembered frames are renewed.
 ghost use mathlib.Core.Path.{_≡_};
 ghost use Rattle.filters.specs.Narrowed.{narrowedOf};
 use frame::Frame;

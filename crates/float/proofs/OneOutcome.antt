@@ -26,8 +26,8 @@ clamp-unit-f32-single κs a r r' s s' p q = p ∙ sym q
 pub clamp-unit-f64-single : Single clamp.clamp_unit_f64.Reads.Post
 clamp-unit-f64-single κs a r r' s s' p q = p ∙ sym q
 
-pub clamp-both-f32-single : Single clamp.clamp_both_f32.Reads.Post
-clamp-both-f32-single κs a r r' s s' p q = p ∙ sym q
+pub clamp-signed-unit-f32-single : Single clamp.clamp_signed_unit_f32.Reads.Post
+clamp-signed-unit-f32-single κs a r r' s s' p q = p ∙ sym q
 
 pub at-least-hundredth-f64-single : Single clamp.at_least_hundredth_f64.Reads.Post
 at-least-hundredth-f64-single κs a r r' s s' p q = p ∙ sym q

@@ -3,7 +3,7 @@ use Prim.Native.Nat.{ℕ}
 use mathlib.Core.Bool.{false}
 use lib.Ieee.{Float, Format, round}
 
--- a / b, rounded to the format
+-- the format's value nearest to the fraction a / b
 unfoldable pub literal : Format → ℕ → ℕ → Float
 unfolding round
 literal f a b = round f false a b

@@ -1,8 +1,9 @@
-// A float's bit pattern, and the float of a pattern. The language's own `to_bits` and `from_bits`
-// are not defined at a NaN; here every NaN counts as one, and writes the pattern of `toBits`.
+// Floats to bit patterns and back. The language's own `to_bits` and `from_bits` are undefined at a
+// NaN; here all NaNs count as one value with one pattern.
 ghost use mathlib.Core.Path.{_≡_};
 ghost use lib.Ieee.{binary32, binary64, ofBits, toBits};
 
+// Rust's `f32::to_bits`; every NaN gives 7FC00000.
 pub fn to_bits_f32(x: f32) -> u32
     ensures { λ r. ⌜ r ≡ toBits binary32 x ⌝ }
 {
@@ -12,6 +13,7 @@ pub fn to_bits_f32(x: f32) -> u32
     f32::to_bits(x)
 }
 
+// Rust's `f64::to_bits`; every NaN gives 7FF8000000000000.
 pub fn to_bits_f64(x: f64) -> u64
     ensures { λ r. ⌜ r ≡ toBits binary64 x ⌝ }
 {
@@ -21,6 +23,7 @@ pub fn to_bits_f64(x: f64) -> u64
     f64::to_bits(x)
 }
 
+// Rust's `f32::from_bits`; every pattern of a NaN gives NaN.
 pub fn from_bits_f32(bits: u32) -> f32
     ensures { λ r. ⌜ r ≡ ofBits binary32 bits ⌝ }
 {
@@ -30,6 +33,7 @@ pub fn from_bits_f32(bits: u32) -> f32
     f32::from_bits(bits)
 }
 
+// Rust's `f64::from_bits`; every pattern of a NaN gives NaN.
 pub fn from_bits_f64(bits: u64) -> f64
     ensures { λ r. ⌜ r ≡ ofBits binary64 bits ⌝ }
 {

@@ -1,10 +1,11 @@
-// Rust's `abs`, its `clamp` at the bounds that kira uses, and its `max` with 0.01: below the lower
-// bound gives the bound, above the upper gives that bound, otherwise the value itself, so that -0
-// and NaN pass the clamps.
+// Rust's `abs`, its `clamp` at the bounds that kira uses, and its `max` with 0.01. A clamp gives its
+// lower bound for a value below it, its upper bound for a value above it, and otherwise the value
+// itself: so -0 and NaN stay as they are.
 ghost use mathlib.Core.Path.{_≡_};
 ghost use lib.Ieee.{binary32, binary64};
-ghost use Rattle.float.specs.Clamp.{absOf, unitOf, bothOf, hundredthOf};
+ghost use Rattle.float.specs.Clamp.{absOf, unitOf, signedUnitOf, hundredthOf};
 
+// Rust's `f32::abs`: the value without its sign. NaN stays NaN.
 pub fn abs_f32(x: f32) -> f32
     ensures { λ r. ⌜ r ≡ absOf x ⌝ }
 {
@@ -17,7 +18,7 @@ pub fn abs_f32(x: f32) -> f32
     x
 }
 
-// `mix.clamp(0.0, 1.0)`
+// kira's `mix.clamp(0.0, 1.0)`. -0 and NaN stay as they are.
 pub fn clamp_unit_f32(mix: f32) -> f32
     ensures { λ r. ⌜ r ≡ unitOf binary32 mix ⌝ }
 {
@@ -30,7 +31,7 @@ pub fn clamp_unit_f32(mix: f32) -> f32
     mix
 }
 
-// `resonance.clamp(0.0, 1.0)`
+// kira's `resonance.clamp(0.0, 1.0)`. -0 and NaN stay as they are.
 pub fn clamp_unit_f64(resonance: f64) -> f64
     ensures { λ r. ⌜ r ≡ unitOf binary64 resonance ⌝ }
 {
@@ -43,9 +44,9 @@ pub fn clamp_unit_f64(resonance: f64) -> f64
     resonance
 }
 
-// `x.clamp(-1.0, 1.0)`: of a panning, and a hard clip
-pub fn clamp_both_f32(x: f32) -> f32
-    ensures { λ r. ⌜ r ≡ bothOf binary32 x ⌝ }
+// `x.clamp(-1.0, 1.0)`, by which kira clamps a panning and clips hard. NaN stays NaN.
+pub fn clamp_signed_unit_f32(x: f32) -> f32
+    ensures { λ r. ⌜ r ≡ signedUnitOf binary32 x ⌝ }
 {
     if x < -1.0 {
         return -1.0;
@@ -56,7 +57,7 @@ pub fn clamp_both_f32(x: f32) -> f32
     x
 }
 
-// `q.max(0.01)`
+// kira's `q.max(MIN_Q)` for an EQ's q, where MIN_Q is 0.01. NaN gives 0.01.
 pub fn at_least_hundredth_f64(q: f64) -> f64
     ensures { λ r. ⌜ r ≡ hundredthOf q ⌝ }
 {

@@ -7,13 +7,21 @@ use Rattle.float.specs.Literal.{literal}
 use Rattle.line.specs.declared.comb.Combed.{Combed}
 use Rattle.line.specs.Position.{nextPosition}
 
--- `output * (1.0 - damp) + filter_store * damp`
+-- the new `filter_store`: `output * (1.0 - damp) + filter_store * damp`
 unfoldable pub storeOf : Float → Float → Float → Float
-storeOf damp filterStore output = add binary32 (mul binary32 output (sub binary32 (literal binary32 1 1) damp)) (mul binary32 filterStore damp)
+storeOf damp filterStore output =
+    add binary32 (mul binary32 output (sub binary32 (literal binary32 1 1) damp)) (mul binary32 filterStore damp)
 
+-- what a step gives: the old float, which is NaN past the line's end, the next position and the new `filter_store`
 unfoldable pub combedOf : Float → ℕ → Float → List Float → Combed
-combedOf damp at filterStore line = record { output = getD line at nan; at = nextPosition at (length line); «filter_store» = storeOf damp filterStore (getD line at nan) }
+combedOf damp at filterStore line = record {
+  output = getD line at nan;
+  at = nextPosition at (length line);
+  «filter_store» = storeOf damp filterStore (getD line at nan);
+}
 
--- `input + filter_store * feedback` in the old float's place
+-- the line after a step: `input + filter_store * feedback`, with the new `filter_store`, in the old float's place; past
+-- the line's end nothing is stored
 unfoldable pub combLineOf : Float → Float → Float → ℕ → Float → List Float → List Float
-combLineOf feedback damp input at filterStore line = set line at (add binary32 input (mul binary32 (storeOf damp filterStore (getD line at nan)) feedback))
+combLineOf feedback damp input at filterStore line =
+    set line at (add binary32 input (mul binary32 (storeOf damp filterStore (getD line at nan)) feedback))

@@ -1,9 +1,9 @@
-// A line of floats, read and stored at a place: what a comb, an all-pass and a line of frames share.
+// Reads and stores a float at a place of a line, for combs, all-passes and lines of frames.
 ghost use mathlib.Core.Path.{_≡_};
 ghost use lib.Ieee.{nan};
 ghost use lib.ListN.{getD, set};
 
-// The float at a place, and NaN past the line's end.
+// The float at a place; NaN past the line's end.
 pub(crate) fn float_at(line: &[f32], place: usize) -> f32
     ensures { λ r. ⌜ r ≡ getD (now (line .entry)) place nan ⌝ }
 {
@@ -13,7 +13,7 @@ pub(crate) fn float_at(line: &[f32], place: usize) -> f32
     0.0 / 0.0
 }
 
-// Past the line's end nothing is stored.
+// Stores a float at a place; past the line's end nothing is stored.
 pub(crate) fn put_float(line: &mut [f32], place: usize, x: f32)
     ensures { λ _. ⌜ now (line .exit) ≡ set (now (line .entry)) place x ⌝ }
 {

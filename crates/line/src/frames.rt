@@ -1,11 +1,12 @@
-// A line of frames, as a delay has it: left and right of a frame side by side. Where kira's
-// `delay.rs` moves its whole buffer up, the frame at the position is read and stored in place.
+// A delay's line of frames, left and right of each frame side by side. kira's `delay.rs` moves its
+// whole buffer along; here the frame at the position is read, and the new one stored in its place.
 ghost use mathlib.Core.Path.{_≡_};
 ghost use Rattle.line.specs.Frames.{frameAt, frameIn};
 use crate::floats::float_at;
 use crate::floats::put_float;
 use frame::Frame;
 
+// The frame at a position, counted in frames. What lies past the line's end is read as NaN.
 pub fn frame_at(line: &[f32], at: usize) -> Frame
     ensures { λ r. ⌜ r ≡ frameAt at (now (line .entry)) ⌝ }
 {
@@ -22,6 +23,7 @@ pub fn frame_at(line: &[f32], at: usize) -> Frame
     }
 }
 
+// Stores a frame at a position, counted in frames. Past the line's end nothing is stored.
 pub fn put_frame(line: &mut [f32], at: usize, x: Frame)
     ensures { λ _. ⌜ now (line .exit) ≡ frameIn at x (now (line .entry)) ⌝ }
 {

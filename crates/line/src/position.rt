@@ -1,8 +1,8 @@
-// The position of a line moves on by one, and from the line's last place to its first.
+// How a position moves along a line: one place on, and from the last place to the first.
 ghost use mathlib.Core.Path.{_≡_};
 ghost use Rattle.line.specs.Position.{nextPosition};
 
-// A position that is not on the line moves to its first place.
+// The position after `at` on a line of this length: 0 from the last place on, past the end included.
 pub fn next_position(at: usize, length: usize) -> usize
     ensures { λ r. ⌜ r ≡ nextPosition at length ⌝ }
 {

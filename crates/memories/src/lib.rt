@@ -1,5 +1,5 @@
-// What stages remember beside their lines: the one home of its sizes, and of which kind uses which
-// part. Every list place has room for any kind.
+// What stages remember besides their lines: how much, and which part each kind uses. Every list place
+// has room for a stage of any kind.
 ghost use mathlib.Core.Path.{_≡_};
 ghost use lib.ListN.{getD};
 ghost use Rattle.memories.specs.Memories.{zeroMemories};
@@ -9,34 +9,38 @@ use integrators::Filtered;
 use integrators::Integrators;
 use line::frames::frame_at;
 use line::frames::put_frame;
-use tuning::COMBS;
-use tuning::LINES;
+use reverb_tuning::COMBS;
+use reverb_tuning::LINES;
 
-// The places of a list of stages.
+// How many places a list of stages has.
 pub const PLACES: usize = 16;
 
-// A place's positions: one for each line of a reverb; a delay's is the first.
+// The positions of one place: one for each line of a reverb. A delay uses the first.
 pub const PLACE_POSITIONS: usize = LINES;
 
-// A place's floats: those of a reverb's combs, then the two frames of a filter or an EQ. As a frame,
-// the first of the two is at IC1EQ.
+// A place's floats are one for each comb of a reverb, then the two frames of a filter or an EQ. Counted
+// in frames, the first of the two is number IC1EQ.
 const IC1EQ: usize = COMBS / 2;
 
+// The second of the two follows the first.
 const IC2EQ: usize = IC1EQ + 1;
 
+// The floats of one place.
 pub const PLACE_FLOATS: usize = 2 * (IC2EQ + 1);
 
+// The positions of all places.
 pub const ALL_POSITIONS: usize = PLACES * PLACE_POSITIONS;
 
+// The floats of all places.
 pub const ALL_FLOATS: usize = PLACES * PLACE_FLOATS;
 
-// Of all places; they go in and come back by value.
+// What all stages remember, place after place. A call takes memories by value and gives them back.
 pub struct Memories {
     pub positions: [usize; ALL_POSITIONS],
     pub floats: [f32; ALL_FLOATS],
 }
 
-// Nothing has been heard yet.
+// The memories of a chain that has not run yet: every position is 0, and every float is +0.
 pub fn zero() -> Memories
     ensures { λ r. ⌜ r ≡ zeroMemories ⌝ }
 {
@@ -46,7 +50,8 @@ pub fn zero() -> Memories
     }
 }
 
-// The two frames of a filter or an EQ, out of its place's floats.
+// The two frames that a filter or an EQ remembers, read from its place's floats. A missing float is
+// read as NaN.
 pub fn recall(floats: &[f32]) -> Integrators
     ensures { λ r. ⌜ r ≡ remembered (now (floats .entry)) ⌝ }
 {
@@ -56,7 +61,8 @@ pub fn recall(floats: &[f32]) -> Integrators
     }
 }
 
-// The frame that came out, once the two that are then remembered are put away.
+// Stores the two frames that a filter or an EQ remembers from now on among its place's floats, and
+// gives the frame that came out.
 pub fn keep(filtered: Filtered, floats: &mut [f32]) -> Frame
     ensures { λ r. ⌜ (r ≡ filtered .output) × (now (floats .exit) ≡ remember (filtered .after) (now (floats .entry))) ⌝ }
 {
@@ -66,7 +72,7 @@ pub fn keep(filtered: Filtered, floats: &mut [f32]) -> Frame
     filtered.output
 }
 
-// The number at a place of a list (of positions, of progress, of starts), and 0 past its end.
+// The number at place i of a list (positions, progress or starts), and 0 past its end.
 pub fn number_at(numbers: &[usize], i: usize) -> usize
     ensures { λ r. ⌜ r ≡ getD (now (numbers .entry)) i 0 ⌝ }
 {

@@ -13,8 +13,8 @@ use Rattle.line.specs.AllPass.{passedOf, passLineOf}
 use Rattle.line.specs.Comb.{combedOf, combLineOf}
 use Rattle.line.specs.Held.{Held, holds, front, back, joined}
 use Rattle.line.proofs.Lent.{lent, home, rest-lent, rest-home, first-lent, first-home}
-use Rattle.tuning.specs.Tuning.{total}
-use Rattle.tuning.proofs.Tunings.{total-more}
+use Rattle.reverb_tuning.specs.Tuning.{total}
+use Rattle.reverb_tuning.proofs.Tunings.{total-more}
 use Rattle.reverb.specs.Reverb.{Heard, heard, combOf, passOf, linesInTurn}
 
 -- the lines from k up to e: what they have together

@@ -9,7 +9,7 @@ use Rattle.line.specs.Comb.{combLineOf}
 use Rattle.line.specs.Held.{Held}
 use Rattle.line.proofs.Keeps.{Same, Keeps, same-refl, joined-keeps, cond-keeps}
 use Rattle.reverb.specs.Reverb.{Heard, combOf, passOf, linesInTurn, sideOf, reverbed, reverbOf}
-use Rattle.reverb.proofs.Levels.{both, fits, side-is, reverbed-is, reverb-is}
+use Rattle.reverb.proofs.Levels.{sides, fits, side-is, reverbed-is, reverb-is}
 
 comb-keeps : (feedback damping x sum : Float) (h : Held) → Same (combOf feedback damping x sum h .held) h
 unfolding combOf combLineOf
@@ -30,7 +30,7 @@ side-keeps lines feedback damping x h = rw side-is (lines-keep 1 _ _ (comb-keeps
 
 module _ (rate : ℕ) (feedback damping width mix : Float) where
   reverbed-keeps : Keeps (reverbed rate feedback damping width mix)
-  unfolding both
+  unfolding sides
   reverbed-keeps r = rw reverbed-is (joined-keeps _ 12 8 _ _ (r .held) (side-keeps _ feedback damping _ _) (side-keeps _ feedback damping _ _))
 
   pub reverb-keeps : Keeps (reverbOf rate feedback damping width mix)

@@ -10,15 +10,15 @@ use Rattle.float.specs.Literal.{literal}
 use Rattle.frame.specs.declared.Frame.{Frame}
 use Rattle.frame.specs.Mix.{mixOf}
 use Rattle.line.specs.Held.{Held, front, back, joined, Ran, ran}
-use Rattle.tuning.specs.Tuning.{combCount, lineCount, reverbLines, total, reverbFloats}
+use Rattle.reverb_tuning.specs.Tuning.{combCount, lineCount, reverbLines, total, reverbFloats}
 use Rattle.reverb.specs.Reverb.{Heard, heard, combOf, passOf, linesInTurn, sideOf, widthOf, reverbed, reverbOf}
 
 abbrev pub mono : Frame → Float
 mono x = mul binary32 (add binary32 (x .left) (x .right)) (literal binary32 15 1000)
 
 -- a frame and what its two sides gave
-unfoldable pub both : Float → Float → Frame → Heard → Heard → Ran
-both width mix x left right = ran (mixOf (widthOf (left .out) (right .out) width) x mix) (joined (left .held) (right .held))
+unfoldable pub sides : Float → Float → Frame → Heard → Heard → Ran
+sides width mix x left right = ran (mixOf (widthOf (left .out) (right .out) width) x mix) (joined (left .held) (right .held))
 
 -- is there room for a reverb?
 abbrev pub fits : ℕ → Held → Bool
@@ -34,10 +34,10 @@ side-is lines feedback damping x h = refl
 
 module _ (rate : ℕ) (feedback damping width mix : Float) (r : Ran) where
   pub reverbed-is : reverbed rate feedback damping width mix r
-      ≡ both width mix (r .frame)
+      ≡ sides width mix (r .frame)
       (sideOf (take 12 (reverbLines rate)) feedback damping (mono (r .frame)) (front (total (take 12 (reverbLines rate))) 12 8 (r .held)))
       (sideOf (drop 12 (reverbLines rate)) feedback damping (mono (r .frame)) (back (total (take 12 (reverbLines rate))) 12 8 (r .held)))
-  unfolding reverbed both
+  unfolding reverbed sides
   reverbed-is = refl
 
   pub reverb-is : reverbOf rate feedback damping width mix r ≡ cond (fits rate (r .held)) (reverbed rate feedback damping width mix r) r

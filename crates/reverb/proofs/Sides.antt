@@ -10,10 +10,10 @@ use Rattle.frame.specs.declared.Frame.{Frame}
 use Rattle.frame.specs.Mix.{mixOf}
 use Rattle.line.specs.Held.{Held, holds, front, back, joined, Ran, ran}
 use Rattle.line.proofs.Lent.{lent, home, rest-lent, rest-home}
-use Rattle.tuning.specs.Tuning.{sideCombs, sideLines, lineCount, reverbLines, total, reverbFloats}
-use Rattle.tuning.proofs.Tunings.{total-split}
+use Rattle.reverb_tuning.specs.Tuning.{sideCombs, sideLines, lineCount, reverbLines, total, reverbFloats}
+use Rattle.reverb_tuning.proofs.Tunings.{total-split}
 use Rattle.reverb.specs.Reverb.{heard, sideOf, widthOf, reverbOf}
-use Rattle.reverb.proofs.Levels.{mono, both, side, side-is, reverbed-is, reverb-is}
+use Rattle.reverb.proofs.Levels.{mono, sides, side, side-is, reverbed-is, reverb-is}
 
 module _ (rate : ℕ) where
   -- a side's floats are those of its combs and of its all-passes
@@ -56,7 +56,7 @@ module _ (rate : ℕ) (feedback damping width mix : Float) where
         → y ≡ mixOf (widthOf left right width) x mix
         → ran y (holds (home n (a .store ++ drop n store) (b .store)) (home 12 (a .positions ++ drop 12 positions) (b .positions)) (home 8 (a .floats ++ drop 8 floats) (b .floats)))
         ≡ reverbOf rate feedback damping width mix (ran x (holds store positions floats))
-    unfolding front back joined both
+    unfolding front back joined sides
     both-sides s p f e ls lp lf l r m =
         let r' : heard right b ≡ side (slice 12 (sideLines + sideCombs) (reverbLines rate)) (slice (sideLines + sideCombs) lineCount (reverbLines rate)) feedback damping (mono x) (holds (drop n store) (drop 12 positions) (drop 8 floats)) =
         rw (rest-lent n (a .store) store ls, rest-lent 12 (a .positions) positions lp, rest-lent 8 (a .floats) floats lf) at r in

@@ -1,6 +1,6 @@
 // kira's `reverb.rs`: on each side eight combs side by side, whose outputs are added up, then four
 // all-passes one after another; then the width and the mix. The left side's twelve lines come before
-// the right side's. Each line is lent alone, and the rest of the stretch is handed on.
+// the right side's. Each line is lent alone to its comb or all-pass, and the rest is handed on.
 ghost use mathlib.Core.Path.{_≡_};
 ghost use mathlib.Core.List.{List};
 ghost use Prim.Native.Nat.{_+_, _≤_};
@@ -8,23 +8,23 @@ ghost use lib.Ieee.{Float};
 ghost use lib.ListN.{length};
 ghost use lib.Seq.{slice};
 ghost use Rattle.line.specs.Held.{holds, ran};
-ghost use Rattle.tuning.specs.Tuning.{lineCount, reverbLines, total};
+ghost use Rattle.reverb_tuning.specs.Tuning.{lineCount, reverbLines, total};
 ghost use Rattle.reverb.specs.Reverb.{heard, combOf, passOf, linesInTurn, widthOf, reverbOf};
 use frame::Frame;
 use line::all_pass;
 use line::comb;
-use tuning::COMBS;
-use tuning::LINES;
-use tuning::SIDE_COMBS;
-use tuning::SIDE_LINES;
-use tuning::floats_from;
-use tuning::reverb_floats;
-use tuning::reverb_line;
+use reverb_tuning::COMBS;
+use reverb_tuning::LINES;
+use reverb_tuning::SIDE_COMBS;
+use reverb_tuning::SIDE_LINES;
+use reverb_tuning::floats_from;
+use reverb_tuning::reverb_floats;
+use reverb_tuning::reverb_line;
 
-// The right side's all-passes begin at this line.
+// The line at which the right side's all-passes begin.
 const RIGHT_PASSES: usize = SIDE_LINES + SIDE_COMBS;
 
-// The all-passes from line k up to line `end`, one after another.
+// Runs the all-passes from line k up to but not including line `end`, one after another.
 fn passes(
     k: usize,
     end: usize,
@@ -53,7 +53,8 @@ fn passes(
     )
 }
 
-// The combs from line k up to line `end`, whose outputs are added to `sum`, and then four all-passes.
+// Runs the combs from line k up to but not including line `end`, adds their outputs to `sum`, and runs
+// the four all-passes after them on the sum.
 fn combs(
     k: usize,
     end: usize,
@@ -98,7 +99,7 @@ fn combs(
     )
 }
 
-// Each side with a part of the other, by the width.
+// Each side with a part of the other: none of it at width 1, as much as of itself at width 0.
 fn widened(left: f32, right: f32, stereo_width: f32) -> Frame
     ensures { λ r. ⌜ r ≡ widthOf left right «stereo_width» ⌝ }
 {
@@ -110,8 +111,9 @@ fn widened(left: f32, right: f32, stereo_width: f32) -> Frame
     }
 }
 
-// Where the store, the positions or the floats are fewer than a reverb's, the frame comes back and
-// nothing changes.
+// One frame through a reverb at this rate. `store` begins with its lines, `positions` with their
+// positions and `floats` with what its combs remember. If one of the three is too short for a reverb,
+// the frame comes back and nothing changes.
 pub fn process(
     input: Frame,
     rate: u32,

@@ -1,27 +1,32 @@
--- IEEE 754's square root: the value nearest to the root. Definitions only.
--- That `sqrtOf` is that value, and the only one, is proved over the format by `sqrt-nearest` and `only-nearest` of crate `nearest`, in the words of its Nearest.antt.
+-- IEEE 754's square root: the format's value nearest to the real root. Definitions only.
+-- That `sqrtOf` gives this value, and that there is only one, is proved for both formats at once by `sqrt-nearest` and
+-- `only-nearest` of crate `theory_nearest`, in the words of its specs/Nearest.antt.
 use Prim.Native.Nat.{ℕ, zero, suc, _+_, _-_, _*_, _/_, _^_}
 use mathlib.Core.Bool.{true, false, cond}
 use lib.Dec.{leb, ltb}
 use lib.Ieee.{Float, nan, inf, fin, Format, prec, low, up, down, size, units}
 
--- the whole part of the square root of n, for an n below 4 ^ d: a binary digit of the root for each two of n
+-- The whole part of the square root of n, for an n below 4 ^ d. It is twice the whole part of the root of n / 4, or one
+-- more than that.
 unfoldable pub wholeRoot : ℕ → ℕ → ℕ
 wholeRoot zero n = 0
 wholeRoot (suc d) n = let r = 2 * wholeRoot d (n / 4) in cond (leb (suc r * suc r) n) (suc r) r
 
--- The whole number nearest to the square root of n. No root is half way between two whole numbers: (r + 1/2)^2 is r * r + r + 1/4.
+-- The whole number nearest to the square root of n. With r the whole part of the root, it is r + 1 where n is above
+-- r * r + r, and otherwise r. No root lies half way between the two, since (r + 1/2)^2 is r * r + r + 1/4.
 unfoldable pub nearestRoot : ℕ → ℕ
 unfolding wholeRoot
 nearestRoot n = let r = wholeRoot (size n) n in cond (ltb (r * r + r) n) (suc r) r
 
--- The root of n, a whole number of squares of the format's smallest value: in units of that value it is the root of n.
--- Of its whole part, which has half as many digits as n, the format keeps the `prec` leading ones and drops k.
+-- The square root of n * u ^ 2, where u is the format's smallest positive value: it is the root of n, times u.
+-- The whole part of the root of n has half as many binary digits as n. The format has room for `prec` of them, so the
+-- last k are rounded off.
 unfoldable pub rootUnits : Format → ℕ → Float
 unfolding nearestRoot size units
 rootUnits f n = let k = (size n + 1) / 2 - prec f in units f false (nearestRoot (n / 4 ^ k)) k
 
--- the square root: of -0 it is -0, and of a negative number it is no number
+-- The square root. Of -0 it is -0; of a number below 0, of -infinity and of NaN it is NaN. A positive number x is
+-- n * u ^ 2, where u is 2 ^ -low; this n is handed to `rootUnits`.
 unfoldable pub sqrtOf : Format → Float → Float
 unfolding rootUnits
 sqrtOf f nan = nan

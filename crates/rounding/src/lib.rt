@@ -1,6 +1,6 @@
-// The roundings that the language lacks and kira's Rust has: `sqrt`, and `as f32` from f64; and that
-// of a quotient to a whole number. Nothing here has a `requires`: NaN, infinities, -0 and subnormals
-// go in and come out as IEEE 754 and the Rust have it.
+// Roundings that the language lacks: `sqrt` and `as f32` from f64, which kira's Rust uses, and a
+// quotient to the nearest whole number. Nothing here has a `requires`: NaN, infinities, -0 and
+// subnormals may all be passed in, and give what IEEE 754 and the Rust give.
 pub mod narrow;
 pub mod quotient;
 pub mod sqrt;

@@ -1,6 +1,6 @@
-// Rust's `as f32` from an f64: the f32 nearest to it, a tie going to the even one. The digits that
-// the f32 has no room for are divided off, and the exponent's field is set back by the difference
-// of the two formats' biases, 896.
+// Rust's `as f32` from an f64: the f32 nearest to it, a tie going to the even one. The digits for
+// which an f32 has no room are divided off, and the exponent field goes down by 896, the difference
+// of the two formats' biases.
 ghost use mathlib.Core.Path.{_≡_};
 ghost use mathlib.Core.Bool.{Bool, cond};
 ghost use Prim.Native.Nat.{_+_, _^_, _≤_, _<_, min};
@@ -14,7 +14,7 @@ pub(crate) fn lesser(a: u64, b: u64) -> u64
     if a < b { a } else { b }
 }
 
-// The bits, without the sign, of the f32 nearest to the f64 of these fields.
+// The f32 nearest to the finite f64 with this exponent field and these digits, as bits without a sign.
 fn narrowed(field: u64, digits: u64) -> u64
     requires { ⌜ field < 2047 ⌝ ∗ ⌜ digits < 0x10_0000_0000_0000 ⌝ }
     ensures { λ r. ⌜ ((s : Bool) → ofBits binary32 (cond s (2 ^ 31) 0 + r) ≡ narrowOf binary32 (ofFields binary64 s field digits)) × (r ≤ 0x7f80_0000) ⌝ }
@@ -32,6 +32,8 @@ fn narrowed(field: u64, digits: u64) -> u64
     )
 }
 
+// Rust's `x as f32`: the f32 nearest to x, a tie going to the even one. A number too large becomes an
+// infinity, one too small a zero, both with the sign of x. NaN gives NaN.
 pub fn as_f32(x: f64) -> f32
     ensures { λ r. ⌜ r ≡ narrowOf binary32 x ⌝ }
 {

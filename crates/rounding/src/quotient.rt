@@ -1,8 +1,8 @@
-// A quotient of whole numbers, rounded.
+// A quotient of whole numbers, rounded to a whole number.
 ghost use mathlib.Core.Path.{_≡_};
 ghost use Rattle.rounding.specs.Quotient.{quotientOf};
 
-// a / b to the nearest whole number, a tie to the even one; 0 where b is 0.
+// The whole number nearest to a / b, a tie going to the even one; 0 if b is 0.
 pub fn nearest_quotient(a: u64, b: u64) -> u64
     ensures { λ r. ⌜ r ≡ quotientOf a b ⌝ }
 {

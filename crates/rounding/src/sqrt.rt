@@ -1,5 +1,5 @@
-// The square root of an f32 and of an f64, correctly rounded: the digits of the root are worked out
-// one by one on a u64, and one law over the format turns them into the bits of the answer.
+// The square root of an f32 and of an f64, correctly rounded. The digits of the root are worked out
+// one by one in a u64. One law, stated for both formats at once, says which bits they make.
 ghost use mathlib.Core.Path.{_≡_};
 ghost use Prim.Native.Nat.{_+_, _*_, _/_, _^_, _≤_, _<_};
 ghost use lib.Ieee.{binary32, binary64, ofBits};
@@ -17,8 +17,8 @@ struct Scaled {
     places: u64,
 }
 
-// The whole root of w * 4^n / 2^64, and what is left. Each turn takes two binary digits of w, from
-// the top, and makes one of the root.
+// The whole part of the root of floor(w * 4^n / 2^64), and the remainder. Each turn takes the two
+// highest binary digits that are left of w, and finds one digit of the root.
 fn whole_root(w: u64, n: u64) -> Root
     requires { ⌜ n ≤ 53 ⌝ }
     ensures { λ r. ⌜ Rooted w n (r .digits) (r .rest) ⌝ }
@@ -43,7 +43,7 @@ fn whole_root(w: u64, n: u64) -> Root
     Root { digits: root, rest }
 }
 
-// The whole number nearest to the root of w * 4^n / 2^64.
+// The whole number nearest to the root of floor(w * 4^n / 2^64).
 fn nearest_root(w: u64, n: u64) -> u64
     requires { ⌜ n ≤ 53 ⌝ }
     ensures { λ r. ⌜ (r ≡ nearestRoot (w * 4 ^ n / 2 ^ 64)) × (r ≤ 2 ^ n) ⌝ }
@@ -54,7 +54,7 @@ fn nearest_root(w: u64, n: u64) -> u64
     if digits < rest { digits + 1 } else { digits }
 }
 
-// The p leading binary digits of the root of q * 2^j, and how many it drops.
+// The root of q * 2^j, rounded to its p leading binary digits, and how many digits that drops.
 fn scaled_root(q: u64, j: u64, p: u64) -> Scaled
     requires { ⌜ Rootable q j p ⌝ }
     ensures { λ r. ⌜ ScaledRoot q j p (r .digits) (r .places) ⌝ }
@@ -67,7 +67,7 @@ fn scaled_root(q: u64, j: u64, p: u64) -> Scaled
     Scaled { digits, places }
 }
 
-// The bits of the root of the positive finite f32 that has the bits b.
+// The bits of the root of the f32 with the bits b, which is finite and above 0.
 fn root_bits_f32(b: u64) -> u64
     requires { ⌜ 0 < b ⌝ ∗ ⌜ b < 0x7f80_0000 ⌝ }
     ensures { λ r. ⌜ (ofBits binary32 r ≡ sqrtOf binary32 (ofBits binary32 b)) × (r ≤ 0x7f80_0000) ⌝ }
@@ -82,7 +82,7 @@ fn root_bits_f32(b: u64) -> u64
     lesser(root.places * 0x80_0000 + root.digits, 0x7f80_0000)
 }
 
-// The bits of the root of the positive finite f64 that has the bits b.
+// The bits of the root of the f64 with the bits b, which is finite and above 0.
 fn root_bits_f64(b: u64) -> u64
     requires { ⌜ 0 < b ⌝ ∗ ⌜ b < 0x7ff0_0000_0000_0000 ⌝ }
     ensures { λ r. ⌜ (ofBits binary64 r ≡ sqrtOf binary64 (ofBits binary64 b)) × (r ≤ 0x7ff0_0000_0000_0000) ⌝ }
@@ -100,7 +100,7 @@ fn root_bits_f64(b: u64) -> u64
     )
 }
 
-// Rust's `f32::sqrt`.
+// Rust's `f32::sqrt`, correctly rounded. -0 gives -0; a number below 0 and NaN give NaN.
 pub fn sqrt_f32(x: f32) -> f32
     ensures { λ r. ⌜ r ≡ sqrtOf binary32 x ⌝ }
 {
@@ -117,7 +117,7 @@ pub fn sqrt_f32(x: f32) -> f32
     0.0 / 0.0
 }
 
-// Rust's `f64::sqrt`.
+// Rust's `f64::sqrt`, correctly rounded. -0 gives -0; a number below 0 and NaN give NaN.
 pub fn sqrt_f64(x: f64) -> f64
     ensures { λ r. ⌜ r ≡ sqrtOf binary64 x ⌝ }
 {

@@ -6,7 +6,7 @@ use lib.IntN.{ℤ, pos, negsuc}
 use lib.Ieee.{Float, nan, fin, binary32, binary64, le}
 use Rattle.float.specs.Literal.{literal}
 use Rattle.float.specs.Finite.{finiteOf}
-use Rattle.effect.specs.declared.distortion.DistortionKind.the-variants.{HardClip}
+use Rattle.plain_effects.specs.declared.distortion.DistortionKind.the-variants.{HardClip}
 use Rattle.filters.specs.declared.filter.FilterMode.the-variants.{LowPass}
 use Rattle.filters.specs.declared.eq_filter.EqFilterKind.the-variants.{Bell}
 use Rattle.stage.specs.declared.kind.Stage.{Stage}

@@ -1,11 +1,13 @@
-// A stage is one of seven kinds, and each kind carries its own numbers. What a stage of a kind holds
-// beside them is said here once.
+// "A stage is one of seven kinds, and each kind carries its own numbers": the kinds, and what a stage of
+// each kind has besides its numbers.
 ghost use mathlib.Core.Path.{_≡_};
 ghost use Rattle.stage.specs.Holding.{holdingOf};
-use effect::distortion::DistortionKind;
 use filters::eq_filter::EqFilterKind;
 use filters::filter::FilterMode;
+use plain_effects::distortion::DistortionKind;
 
+// A stage with its settings, in document 01's units: volume, drive, gain and a delay's feedback are whole
+// dB, and g is a tangent. Any numbers may be written here; `range::in_range` says which are accepted.
 pub enum Stage {
     VolumeControl {
         volume: i32,
@@ -36,7 +38,7 @@ pub enum Stage {
         stereo_width: f32,
         mix: f32,
     },
-    // Of the stages after it, the first `owned` are its feedback stages, nested ones counted.
+    // The `owned` stages after it are its feedback stages, nested ones counted.
     Delay {
         frames: u32,
         feedback: i32,
@@ -45,20 +47,23 @@ pub enum Stage {
     },
 }
 
+// The lines of a stage.
 pub enum Lines {
     NoLines,
-    // Those of a reverb, by the rate.
+    // A reverb's 24 lines, whose lengths follow from the rate.
     ReverbLines,
-    // One, of so many frames.
+    // A delay's one line, with its length in frames.
     FrameLine { frames: u32 },
 }
 
-// What a stage holds: so many of the stages after it, and its lines.
+// What a stage has besides its settings: the `owned` stages after it, and its lines.
 pub struct Holding {
     pub owned: usize,
     pub lines: Lines,
 }
 
+// What a stage has besides its settings. Only a reverb and a delay have lines, and only a delay owns
+// stages.
 pub fn holding_of(stage: Stage) -> Holding
     ensures { λ r. ⌜ r ≡ holdingOf stage ⌝ }
 {

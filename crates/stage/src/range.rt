@@ -1,17 +1,18 @@
-// Whether a stage's settings are finite and in their ranges, by the table of document 01.
+// Whether a stage's settings are finite and in their ranges, by document 01's table of settings.
 ghost use mathlib.Core.Path.{_≡_};
 ghost use Rattle.stage.specs.Range.{betweenZ, tangentOf, unitRange, delayRange, inRangeOf};
 use crate::kind::Stage;
 use float::finite::is_finite_f32;
 use float::finite::is_finite_f64;
 
+// A whole number from `low` to `high`, both included.
 fn whole_between(x: i32, low: i32, high: i32) -> bool
     ensures { λ r. ⌜ r ≡ betweenZ low high x ⌝ }
 {
     (low <= x) & (x <= high)
 }
 
-// From 0 to 1, -0 included.
+// An f32 from 0 to 1, -0 included.
 fn is_unit(x: f32) -> bool
     ensures { λ r. ⌜ r ≡ unitRange x ⌝ }
 {
@@ -25,12 +26,15 @@ fn is_tangent(g: f64) -> bool
     (0.0001220703125 <= g) & (g <= 1e17)
 }
 
+// The settings of a delay, except how many stages it owns.
 fn delay_in_range(frames: u32, feedback: i32, mix: f32) -> bool
     ensures { λ r. ⌜ r ≡ delayRange frames feedback mix ⌝ }
 {
     (1 <= frames) & (frames <= 480000) & (feedback <= 24) & is_finite_f32(mix)
 }
 
+// Whether every setting of the stage is finite and in its range. How many stages a delay owns is not
+// looked at: that is refusal 3's concern.
 pub fn in_range(stage: Stage) -> bool
     ensures { λ r. ⌜ r ≡ inRangeOf stage ⌝ }
 {

@@ -1,4 +1,4 @@
-// A chain as one value: the rate, and a list of stages, of which the first `count` are used.
+// A chain as one value: its rate, how many stages it has, and the list of their places.
 ghost use mathlib.Core.Path.{_≡_};
 ghost use Prim.Native.Nat.{_≤_, _<_, min};
 ghost use Rattle.memories.specs.Sizes.{places};
@@ -7,28 +7,30 @@ use crate::kind::Stage;
 use crate::kind::holding_of;
 use memories::PLACES;
 
-// A list of places has one end more than it has places: where the first begins, and where each ends.
+// The length of a list that says where the first place begins and where each place ends.
 pub const ENDS: usize = PLACES + 1;
 
-// A list place: a stage with its settings, and what stands beside them.
+// A list place: a stage with its settings. It is a record so that more can be said of a place later.
 pub struct Slot {
     pub stage: Stage,
 }
 
+// A chain: its rate in frames a second, how many stages it has, and their places. The first `count` slots
+// are its stages, and the others do not matter. A call refuses a count above 16.
 pub struct Setup {
     pub rate: u32,
     pub count: usize,
     pub slots: [Slot; PLACES],
 }
 
-// How many places a list of so many stages uses.
+// How many places a list of `count` stages uses: 16 at most.
 pub fn used(count: usize) -> usize
     ensures { λ r. ⌜ r ≡ min count places ⌝ }
 {
     if count < PLACES { count } else { PLACES }
 }
 
-// No stage yet, at this rate.
+// A chain of no stages, at this rate.
 pub fn empty(rate: u32) -> Setup
     ensures { λ r. ⌜ r ≡ emptySetup rate ⌝ }
 {
@@ -41,7 +43,8 @@ pub fn empty(rate: u32) -> Setup
     }
 }
 
-// One stage more, at the end. Where all places are taken it is counted, so that a call is refused.
+// The chain with one stage more, at its end. Where all 16 places are taken, the stage is not kept and the
+// count is 17, so that a call is refused.
 pub fn with(setup: Setup, stage: Stage) -> Setup
     ensures { λ r. ⌜ r ≡ withStage setup stage ⌝ }
 {
@@ -62,7 +65,7 @@ pub fn with(setup: Setup, stage: Stage) -> Setup
     }
 }
 
-// The place after the stage at i and the stages that it owns, but no further than `end`.
+// The place after the stage at i and all that it owns, but no further than `end`.
 pub fn next_place(stage: Stage, i: usize, end: usize) -> usize
     ensures { λ r. ⌜ (r ≡ nextPlace stage i end) × (r ≤ end) × (i < end → i < r) ⌝ }
 {

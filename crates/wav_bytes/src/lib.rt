@@ -1,5 +1,5 @@
-// Numbers as a WAV file writes them, the low byte first. Nothing here has a `requires`: past the end a
-// byte counts as 0.
+// Numbers as a WAV file writes them, the low byte first. Nothing here has a `requires`: a byte past the
+// end counts as 0.
 ghost use mathlib.Core.Path.{_≡_};
 ghost use Prim.Native.Nat.{_<_};
 ghost use lib.ListN.{getD};
@@ -14,7 +14,7 @@ fn byte_at(bytes: &[u8], at: usize) -> u32
     0
 }
 
-// The number of the two bytes from this place on.
+// The number that two bytes from place `at` on stand for; a byte past the end counts as 0.
 pub fn two_at(bytes: &[u8], at: usize) -> u32
     ensures { λ r. ⌜ (r ≡ twoAt (now (bytes .entry)) at) × (r < 65536) ⌝ }
 {
@@ -24,7 +24,7 @@ pub fn two_at(bytes: &[u8], at: usize) -> u32
     0
 }
 
-// The number of the four.
+// The number that four bytes from place `at` on stand for; a byte past the end counts as 0.
 pub fn four_at(bytes: &[u8], at: usize) -> u32
     ensures { λ r. ⌜ r ≡ fourAt (now (bytes .entry)) at ⌝ }
 {

@@ -1,15 +1,15 @@
--- The header of a WAV file and document 01's answers to it: a table of rows, of which the first that applies decides.
+-- The header of a WAV file and document 01's answers to it, as a table: the first row that applies gives the answer.
 -- Definitions only.
 use Prim.Native.Nat.{ℕ, _+_, _*_, _%_}
 use mathlib.Core.List.{List, [], _∷_}
 use lib.ListN.{length}
-use Rattle.rows.specs.Condition.{Condition, less, differ, _or_}
-use Rattle.rows.specs.Rows.{Row, row, given, firstRow, ByTheTable}
+use Rattle.theory_tables.specs.Condition.{Condition, less, differ, _or_}
+use Rattle.theory_tables.specs.Rows.{Row, row, given, firstRow, ByTheTable}
 use Rattle.wav_header.specs.declared.Header.{Header}
 use Rattle.wav_header.specs.declared.Header.the-variants.{Read, Names, Format, Rate, Size, Short}
 use Rattle.wav_bytes.specs.Bytes.{twoAt, fourAt}
 
--- document 01's number; 0 for a header that is read
+-- document 01's number of an answer; 0 for a header that is read
 abbrev pub headerNumber : Header → ℕ
 headerNumber (Read rate size) = 0
 headerNumber Names = 21
@@ -18,7 +18,9 @@ headerNumber Rate = 23
 headerNumber Size = 24
 headerNumber Short = 25
 
--- ---- the layout: the place at which each field starts, in the order of a file, and the length of the whole
+-- ---- the layout
+
+-- the byte at which each field of a header starts, in the order of a file, and how many bytes the header has
 pub record Layout : Type 0 where
   pub riff : ℕ
   pub riffSize : ℕ
@@ -35,11 +37,26 @@ pub record Layout : Type 0 where
   pub size : ℕ
   pub length : ℕ
 
--- the 44-byte layout of the Multimedia Programming Interface
+-- "the 44-byte layout of the Multimedia Programming Interface (RIFF, fmt of 16 bytes, data)"
 abbrev pub plain : Layout
-plain = record { riff = 0; riffSize = 4; wave = 8; fmt = 12; fmtSize = 16; tag = 20; channels = 22; rate = 24; byteRate = 28; block = 32; bits = 34; dataName = 36; size = 40; length = 44 }
+plain = record {
+  riff = 0;
+  riffSize = 4;
+  wave = 8;
+  fmt = 12;
+  fmtSize = 16;
+  tag = 20;
+  channels = 22;
+  rate = 24;
+  byteRate = 28;
+  block = 32;
+  bits = 34;
+  dataName = 36;
+  size = 40;
+  length = 44;
+}
 
--- a chunk name of these four letters, by their ASCII codes, as a number
+-- the number that `fourAt` reads where a chunk name stands, from the ASCII codes of its four letters
 abbrev pub named : ℕ → ℕ → ℕ → ℕ → ℕ
 named a b c d = a + 256 * b + 65536 * (c + 256 * d)
 
@@ -64,34 +81,36 @@ formatWrong bytes =
     or differ (twoAt bytes (plain .block)) 4
     or differ (fourAt bytes (plain .byteRate)) (4 * fourAt bytes (plain .rate))
 
--- "rate out of range": below 8,000, above 192,000, or above what the program takes
+-- "rate out of range": below 8,000, above 192,000, or above the highest that the program takes
 abbrev pub rateWrong : ℕ → ℕ → Condition
-rateWrong rate most = less rate 8000 or less 192000 rate or less most rate
+rateWrong rate highest = less rate 8000 or less 192000 rate or less highest rate
 
 -- "data size not a multiple of 4"
 abbrev pub sizeWrong : List ℕ → Condition
 sizeWrong bytes = differ (fourAt bytes (plain .size) % 4) 0
 
--- ---- the table: the first row that applies, in this order, gives the answer; a header has no places
+-- ---- the table
+
+-- document 01's refusals, "tested in that order", with 25 before 21; a header has no places, so every place is 0
 abbrev pub headerRows : List ℕ → ℕ → List (Row Header)
-headerRows bytes most =
+headerRows bytes highest =
     row 25 (given 0 (less (length bytes) (plain .length))) (λ p. Short)
     ∷ row 21 (given 0 (namesWrong bytes)) (λ p. Names)
     ∷ row 22 (given 0 (formatWrong bytes)) (λ p. Format)
-    ∷ row 23 (given 0 (rateWrong (fourAt bytes (plain .rate)) most)) (λ p. Rate)
+    ∷ row 23 (given 0 (rateWrong (fourAt bytes (plain .rate)) highest)) (λ p. Rate)
     ∷ row 24 (given 0 (sizeWrong bytes)) (λ p. Size)
     ∷ []
 
--- what is read where no row applies
+-- the answer where no row applies: the header's rate and data size
 abbrev pub readOf : List ℕ → Header
 readOf bytes = Read (fourAt bytes (plain .rate)) (fourAt bytes (plain .size))
 
--- the answer
+-- the answer to a header, for a program that takes rates up to `highest`
 unfoldable pub headerOf : List ℕ → ℕ → Header
-headerOf bytes most = firstRow (headerRows bytes most) (readOf bytes)
+headerOf bytes highest = firstRow (headerRows bytes highest) (readOf bytes)
 
--- the table in plain logic: the first row that applies is given, exactly, and no other
+-- `headerOf` in plain logic: it gives the first row that applies and no other, and `readOf` exactly where none applies
 abbrev pub HeaderTabled : Type 0
 HeaderTabled =
-    (bytes : List ℕ) (most : ℕ)
-    → ByTheTable headerNumber (λ h. 0) (headerRows bytes most) (readOf bytes) (headerOf bytes most)
+    (bytes : List ℕ) (highest : ℕ)
+    → ByTheTable headerNumber (λ h. 0) (headerRows bytes highest) (readOf bytes) (headerOf bytes highest)

@@ -1,12 +1,12 @@
 // The 44-byte header of a WAV file: what it says, or document 01's refusal of it. Nothing here has a
-// `requires`.
+// `requires`: any bytes may be passed in.
 ghost use mathlib.Core.Path.{_≡_};
-ghost use Rattle.rows.specs.Condition.{decide};
+ghost use Rattle.theory_tables.specs.Condition.{decide};
 ghost use Rattle.wav_header.specs.Header.{headerNumber, namesWrong, formatWrong, rateWrong, headerOf};
 use wav_bytes::four_at;
 use wav_bytes::two_at;
 
-// Chunk names as numbers, the first letter lowest.
+// Chunk names, read as numbers with the low byte first.
 const RIFF: u32 = 0x4646_4952;
 
 const WAVE: u32 = 0x4556_4157;
@@ -15,6 +15,7 @@ const FMT: u32 = 0x2074_6d66;
 
 const DATA: u32 = 0x6174_6164;
 
+// The answer to a header: what it says, or one of document 01's refusals.
 pub enum Header {
     // The rate, and the bytes of data to come.
     Read { rate: u32, size: u32 },
@@ -30,7 +31,7 @@ pub enum Header {
     Short,
 }
 
-// Document 01's number of a refusal, and 0 for a header that is read.
+// Document 01's number of a refusal; 0 for a header that is read.
 pub fn number(header: Header) -> u32
     ensures { λ r. ⌜ r ≡ headerNumber header ⌝ }
 {
@@ -65,15 +66,16 @@ fn format_wrong(bytes: &[u8]) -> bool
         | (four_at(bytes, 28) as u64 != 4 * (four_at(bytes, 24) as u64))
 }
 
-fn rate_wrong(rate: u32, most: u32) -> bool
-    ensures { λ r. ⌜ r ≡ decide (rateWrong rate most) ⌝ }
+fn rate_wrong(rate: u32, highest: u32) -> bool
+    ensures { λ r. ⌜ r ≡ decide (rateWrong rate highest) ⌝ }
 {
-    (rate < 8000) | (rate > 192000) | (rate > most)
+    (rate < 8000) | (rate > 192000) | (rate > highest)
 }
 
-// What the first 44 bytes say to a program that takes rates up to `most`.
-pub fn read(bytes: &[u8], most: u32) -> Header
-    ensures { λ r. ⌜ r ≡ headerOf (now (bytes .entry)) most ⌝ }
+// Reads the header in the first 44 bytes, for a program that takes rates up to `highest`. Of the refusals
+// that apply it gives the first in the order 25, 21, 22, 23, 24.
+pub fn read(bytes: &[u8], highest: u32) -> Header
+    ensures { λ r. ⌜ r ≡ headerOf (now (bytes .entry)) highest ⌝ }
 {
     if bytes.len() < 44 {
         return Header::Short;
@@ -85,7 +87,7 @@ pub fn read(bytes: &[u8], most: u32) -> Header
         return Header::Format;
     }
     let rate = four_at(bytes, 24);
-    if rate_wrong(rate, most) {
+    if rate_wrong(rate, highest) {
         return Header::Rate;
     }
     let size = four_at(bytes, 40);

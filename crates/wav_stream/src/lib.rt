@@ -1,7 +1,7 @@
-// What the WAV programs share: a file comes in on standard input, its frames go through a chain in
-// blocks of up to 4,096, and it goes out on standard output with its header as it came. A refusal is
-// its number, alone on a line of the error output. A read error counts as the end of the input; after
-// a failed write nothing more is written, no message either.
+// What the WAV programs share. A file comes in on standard input, its frames go through a chain in
+// blocks of up to 4,096, and it goes out on standard output with its header as it came. Of a refusal
+// the number is written, alone on a line of the error output. A read error counts as the end of the
+// input. After a failed write nothing more is written, and no message either.
 ghost use mathlib.Core.Bool.{true};
 ghost use mathlib.Core.Path.{_≡_};
 ghost use Prim.Native.Nat.{_≤_, _<_};
@@ -10,21 +10,21 @@ use answer::is_accepted;
 use answer::number;
 use chain::render::render;
 use chain::run::Outcome;
-use fresh::start::start;
+use fresh_start::start::start;
 use libc::STDERR_FILENO;
 use libc::STDIN_FILENO;
 use libc::STDOUT_FILENO;
 use memories::Memories;
 use memories::PLACES;
 use stage::setup::Setup;
-use wav::frames::frames_in;
-use wav::frames::frames_out;
 use wav_header::Header;
+use wav_samples::frames::frames_in;
+use wav_samples::frames::frames_out;
 
-// After a block: the bytes of data still to come, and whether there is a reason to read them.
+// What there is after a block: the memories, how many bytes of data are left, and whether to go on.
 struct Turn {
     memories: Memories,
-    left: usize,
+    remaining: usize,
     more: bool,
 }
 
@@ -33,14 +33,14 @@ fn say(number: u32) {
     io::write_all(STDERR_FILENO, b"\n");
 }
 
-// Of the bytes still to come, how many the next block takes: 4,096 frames at most.
-fn block_bytes(left: usize) -> usize
-    ensures { λ r. ⌜ (r ≤ left) × (r ≤ 16384) × (0 < left → 0 < r) ⌝ }
+// How many of the bytes that are left the next block takes: 4,096 frames at most.
+fn block_bytes(remaining: usize) -> usize
+    ensures { λ r. ⌜ (r ≤ remaining) × (r ≤ 16384) × (0 < remaining → 0 < r) ⌝ }
 {
-    if left < 16384 { left } else { 16384 }
+    if remaining < 16384 { remaining } else { 16384 }
 }
 
-// Reads `want` bytes, or what there is.
+// Reads `want` bytes, or as many as there are, and returns how many.
 fn read_block(bytes: &mut [u8], want: usize) -> usize
     requires { ⌜ want ≤ length (now bytes) ⌝ }
     ensures { λ r. ⌜ r ≤ want ⌝ }
@@ -61,7 +61,8 @@ fn render_block(
     render(setup, &mut samples[..n], memories, store, [0; PLACES])
 }
 
-// Writes these frames, and answers whether there is a reason to go on.
+// Writes these frames, or the number of the refusal, and returns whether to go on. After the frames of a
+// block that was cut short it writes number 25.
 fn write_block(refused: u32, samples: &[f32], bytes: &mut [u8], frames: usize, is_cut: bool) -> bool
     requires { ⌜ frames ≤ 4096 ⌝ ∗ ⌜ length (now bytes) ≡ 16384 ⌝ }
 {
@@ -81,35 +82,35 @@ fn write_block(refused: u32, samples: &[f32], bytes: &mut [u8], frames: usize, i
     true
 }
 
-// One block of frames is read, rendered and written. It is the last if it was refused (which no sample
-// from a file can bring about), could not be written or came short.
+// Reads, renders and writes one block of frames. It is the last if it is refused (which no sample from a
+// file can bring about), cannot be written or is cut short.
 fn block(
     setup: Setup,
     memories: Memories,
-    left: usize,
+    remaining: usize,
     bytes: &mut [u8],
     samples: &mut [f32],
     store: &mut [f32],
 ) -> Turn
-    requires { ⌜ 0 < left ⌝ ∗ ⌜ (length (now bytes) ≡ 16384) × (length (now samples) ≡ 8192) ⌝ }
-    ensures { λ r. ⌜ (r .more ≡ true → r .left < left) ⌝ }
+    requires { ⌜ 0 < remaining ⌝ ∗ ⌜ (length (now bytes) ≡ 16384) × (length (now samples) ≡ 8192) ⌝ }
+    ensures { λ r. ⌜ (r .more ≡ true → r .remaining < remaining) ⌝ }
 {
-    let want = block_bytes(left);
+    let want = block_bytes(remaining);
     let got = read_block(bytes, want);
     let frames = frames_in(&bytes[..got], samples);
     let outcome = render_block(setup, memories, samples, frames, store);
     let answer = outcome.answer;
     let kept = outcome.memories;
     let more = write_block(number(answer), samples, bytes, frames, got < want);
-    let rest = left - want;
+    let rest = remaining - want;
     Turn {
         memories: kept,
-        left: rest,
+        remaining: rest,
         more,
     }
 }
 
-// Blocks until all `size` bytes of data are through.
+// Runs blocks until all `size` bytes of data are through, or one was the last.
 fn blocks(
     setup: Setup,
     memories: Memories,
@@ -121,19 +122,19 @@ fn blocks(
     requires { ⌜ (length (now bytes) ≡ 16384) × (length (now samples) ≡ 8192) ⌝ }
 {
     let mut held = memories;
-    let mut left = size;
-    while left > 0 {
-        let done = block(setup, held, left, bytes, samples, store);
+    let mut remaining = size;
+    while remaining > 0 {
+        let done = block(setup, held, remaining, bytes, samples, store);
         if !done.more {
             return;
         }
         let next = done.memories;
         held = next;
-        left = done.left;
+        remaining = done.remaining;
     }
 }
 
-// The header has been read: the lines are cleared, and the header goes out as it came.
+// After the header has been read: clears the lines, writes the header as it came, and runs the blocks.
 fn render_file(head: &[u8], size: u32, setup: Setup, store: &mut [f32]) {
     let started = start(setup, store);
     let answer = started.answer;
@@ -167,11 +168,13 @@ fn at_rate(setup: Setup, rate: u32) -> Setup {
     }
 }
 
-// A whole file through a chain at the file's rate, for a program that takes rates up to `most`.
-pub fn stream(setup: Setup, most: u32, store: &mut [f32]) {
+// Takes a whole WAV file from standard input to standard output through this chain, at the file's rate
+// instead of the setup's. The program takes rates up to `highest`. Of a file that is refused, or cut inside
+// its header, nothing is written but the number, on the error output.
+pub fn stream(setup: Setup, highest: u32, store: &mut [f32]) {
     let mut head = [0; 44];
     let n = io::read_full(STDIN_FILENO, &mut head);
-    let header = wav_header::read(&head[..n], most);
+    let header = wav_header::read(&head[..n], highest);
     match header {
         Header::Read { rate, size } => render_file(&head, size, at_rate(setup, rate), store),
         Header::Names => say(wav_header::number(header)),

@@ -9,8 +9,8 @@ use borrow.Fn.PlainCycle.{Measures, is, falls, and}
 use denote.Ref.{now}
 use lib.ListN.{length, set, take, drop, length-set}
 use lib.Seq.{slice, length-take-le}
-use Rattle.tuning.specs.Tuning.{lineCount, reverbLines, total}
-use Rattle.tuning.proofs.Tunings.{lines-length}
+use Rattle.reverb_tuning.specs.Tuning.{lineCount, reverbLines, total}
+use Rattle.reverb_tuning.proofs.Tunings.{lines-length}
 use Rattle.line.proofs.Lent.{lent-length, first-lent, first-home}
 use Rattle.reverb.specs.Reverb.{heard, combOf, passOf, linesInTurn}
 use Rattle.reverb.proofs.InTurn.{lines-floats, lines-none, lines-more, comb-front}
@@ -19,7 +19,7 @@ use Rattle.reverb.proofs.combs.Kinds as combs-kinds
 use Rattle.reverb.proofs.+combs.Lts-combs as combs-lts
 use Rattle.line.proofs.comb.process.Reads as process-reads
 use Rattle.reverb.proofs.passes.Reads as passes-reads
-use Rattle.tuning.proofs.reverb_line.Reads as reverb-line-reads
+use Rattle.reverb_tuning.proofs.reverb_line.Reads as reverb-line-reads
 use Rattle.reverb.proofs.+combs.{statement}
 use Rattle.reverb.proofs.+combs.Tie.{close}
 

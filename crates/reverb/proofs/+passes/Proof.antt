@@ -9,8 +9,8 @@ use borrow.Fn.PlainCycle.{Measures, is, falls, and}
 use denote.Ref.{now}
 use lib.ListN.{length, set, drop, length-set}
 use lib.Seq.{slice, length-take-le}
-use Rattle.tuning.specs.Tuning.{lineCount, reverbLines, total}
-use Rattle.tuning.proofs.Tunings.{lines-length}
+use Rattle.reverb_tuning.specs.Tuning.{lineCount, reverbLines, total}
+use Rattle.reverb_tuning.proofs.Tunings.{lines-length}
 use Rattle.line.proofs.Lent.{lent-length}
 use Rattle.reverb.specs.Reverb.{heard, passOf}
 use Rattle.reverb.proofs.InTurn.{lines-floats, lines-none, lines-more, pass-front}
@@ -18,7 +18,7 @@ use Rattle.reverb.proofs.passes.Reads as passes
 use Rattle.reverb.proofs.passes.Kinds as passes-kinds
 use Rattle.reverb.proofs.+passes.Lts-passes as passes-lts
 use Rattle.line.proofs.all_pass.process.Reads as process-reads
-use Rattle.tuning.proofs.reverb_line.Reads as reverb-line-reads
+use Rattle.reverb_tuning.proofs.reverb_line.Reads as reverb-line-reads
 use Rattle.reverb.proofs.+passes.{statement}
 use Rattle.reverb.proofs.+passes.Tie.{close}
 

@@ -11,8 +11,8 @@ use lib.Seq.{length-take-le}
 use Rattle.float.specs.Literal.{literal}
 use Rattle.line.specs.Held.{holds}
 use Rattle.line.proofs.Lent.{lent-length}
-use Rattle.tuning.specs.Tuning.{reverbLines, total}
-use Rattle.tuning.proofs.Tunings.{total-split, floats-are}
+use Rattle.reverb_tuning.specs.Tuning.{reverbLines, total}
+use Rattle.reverb_tuning.proofs.Tunings.{total-split, floats-are}
 use Rattle.reverb.proofs.Sides.{left-floats, right-floats, no-store, no-positions, no-floats, both-sides}
 use Rattle.reverb.proofs.process.Statement.{statement}
 use Rattle.reverb.proofs.process.Tie as tie

@@ -6,14 +6,14 @@ use borrow.Author.Tests.{lt-ltb, le-ltb, eq-eqb, ne-eqb}
 use borrow.Author.Needs.{needs}
 use denote.Ref.{now}
 use lib.ListN.{drop}
-use Rattle.rows.proofs.Tested.{Gives, row-hit, row-pass, row-none}
+use Rattle.theory_tables.proofs.Tested.{Gives, row-hit, row-pass, row-none}
 use Rattle.wav_header.specs.Header.{headerRows, readOf, headerOf}
 use Rattle.wav_header.proofs.read.Statement.{statement}
 use Rattle.wav_header.proofs.read.Tie as tie
 
 -- past the first n rows
 abbrev Past : ℕ → tie.Start → Type 0
-Past n z = let bytes = now (z .args .bytes) in Gives (drop n (headerRows bytes (z .args .most))) (readOf bytes) (headerOf bytes (z .args .most))
+Past n z = let bytes = now (z .args .bytes) in Gives (drop n (headerRows bytes (z .args .highest))) (readOf bytes) (headerOf bytes (z .args .highest))
 
 past-none : (z : tie.Start) → Past 0 z
 unfolding headerOf

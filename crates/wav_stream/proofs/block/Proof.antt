@@ -3,7 +3,7 @@ use mathlib.Core.Path.{sym}
 use native.Mathlib.Omega.{arith}
 use borrow.Author.Needs.{needs}
 use lib.Seq.{length-take-le}
-use Rattle.wav.specs.Frames.{wholeFrames}
+use Rattle.wav_samples.specs.Frames.{wholeFrames}
 use Rattle.wav_stream.proofs.block.Statement.{statement}
 use Rattle.wav_stream.proofs.block.Tie as tie
 

@@ -7,10 +7,10 @@ use Rattle.wav_stream.proofs.blocks.Statement.{statement}
 use Rattle.wav_stream.proofs.blocks.Tie as tie
 
 abbrev Inv-loop : tie.InvT-loop
-Inv-loop setup size bytes₀ samples₀ store₀ held₀ left₀ bytes samples store held left = (length bytes ≡ length bytes₀) × (length samples ≡ length samples₀) × (length store ≡ length store₀) × (length bytes₀ ≡ 16384) × (length samples₀ ≡ 8192)
+Inv-loop setup size bytes₀ samples₀ store₀ held₀ remaining₀ bytes samples store held remaining = (length bytes ≡ length bytes₀) × (length samples ≡ length samples₀) × (length store ≡ length store₀) × (length bytes₀ ≡ 16384) × (length samples₀ ≡ 8192)
 
 abbrev μ-loop : tie.MeasureT-loop
-μ-loop setup size bytes₀ samples₀ store₀ held₀ left₀ bytes samples store held left = left
+μ-loop setup size bytes₀ samples₀ store₀ held₀ remaining₀ bytes samples store held remaining = remaining
 
 loop-holds : tie.Need-loop-holds Inv-loop μ-loop
 loop-holds c = (refl, refl, refl, c .before .before .before .pre .0, c .before .before .before .pre .1)

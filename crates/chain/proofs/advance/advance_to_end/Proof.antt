@@ -4,15 +4,15 @@ use Prim.Native.Nat.{_-_}
 use native.Mathlib.Omega.{arith}
 use lib.ListN.{length, getD, replicate}
 use borrow.Author.Needs.{needs}
-use Rattle.tops.proofs.TopStages.{tops-few}
+use Rattle.top_stages.proofs.TopStages.{tops-few}
 use Rattle.chain.specs.Chain.{framesOf, state}
-use Rattle.chain.proofs.Turns.{Left, left-first, left-ready, left-may, end-turn, end-moved, end-next, end-last}
+use Rattle.chain.proofs.Turns.{Pending, pending-first, pending-ready, pending-may, end-turn, end-moved, end-next, end-last}
 use Rattle.chain.proofs.advance.advance_to_end.Statement.{statement}
 use Rattle.chain.proofs.advance.advance_to_end.Tie as tie
 
 abbrev Inv-loop : tie.InvT-loop
 Inv-loop k setup starts places samples₀ store₀ positions₀ floats₀ progress₀ frames samples store positions floats progress =
-    Left setup (state samples₀ store₀ positions₀ floats₀ progress₀) (replicate (framesOf samples₀ - getD progress₀ k 0) k) (state samples store positions floats progress) (replicate (framesOf samples₀ - getD progress k 0) k)
+    Pending setup (state samples₀ store₀ positions₀ floats₀ progress₀) (replicate (framesOf samples₀ - getD progress₀ k 0) k) (state samples store positions floats progress) (replicate (framesOf samples₀ - getD progress k 0) k)
     × (length store ≡ length store₀) × (length positions ≡ length positions₀) × (length floats ≡ length floats₀)
 
 abbrev μ-loop : tie.MeasureT-loop
@@ -20,7 +20,7 @@ abbrev μ-loop : tie.MeasureT-loop
     framesOf samples₀ - getD progress k 0
 
 loop-holds : tie.Need-loop-holds Inv-loop μ-loop
-loop-holds c = (left-first (c .before .before .before .before .pre .1 .0) (c .before .before .before .before .pre .1 .1 .1), refl, refl, refl)
+loop-holds c = (pending-first (c .before .before .before .before .pre .1 .0) (c .before .before .before .before .pre .1 .1 .1), refl, refl, refl)
 
 mul-if1 : tie.Need-mul-if1 Inv-loop μ-loop
 mul-if1 c = let s = c .before .before .before .before .before in omega (arith, tops-few (s .args .setup), s .pre .1 .1 .0)
@@ -29,7 +29,7 @@ element-copy-out-if1 : tie.Need-element-copy-out-if1 Inv-loop μ-loop
 element-copy-out-if1 c = let s = c .before .before .before .before .before in omega (arith, tops-few (s .args .setup), s .pre .1 .1 .0)
 
 advance-requires : tie.Need-advance-requires Inv-loop μ-loop
-advance-requires c κs = let t = end-turn _ (c .before .before .before .before .before .if1 .taken) (c .before .before .before .before .before .before .before .loop .inv .0) in (c .before .before .before .before .before .before .before .before .before .before .before .before .pre .0, (left-ready t, left-may t))
+advance-requires c κs = let t = end-turn _ (c .before .before .before .before .before .if1 .taken) (c .before .before .before .before .before .before .before .loop .inv .0) in (c .before .before .before .before .before .before .before .before .before .before .before .before .pre .0, (pending-ready t, pending-may t))
 
 loop-less : tie.Need-loop-less Inv-loop μ-loop
 loop-less c = omega (arith, end-moved _ (c .before .before .before .before .before .before .before .before .before .before .before .before .before .before .if1 .taken) (c .before .before .before .before .before .before .before .before .before .before .before .before .before .before .before .before .loop .inv .0) (c .before .before .before .before .before .before .before .before .advance .ensures), c .before .before .before .before .before .before .before .before .before .before .before .before .before .before .if1 .taken)

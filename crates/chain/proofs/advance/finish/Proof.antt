@@ -5,7 +5,7 @@ use native.Mathlib.Omega.{arith}
 use lib.ListN.{length}
 use borrow.Author.Needs.{needs}
 use Rattle.chain.specs.Chain.{state}
-use Rattle.chain.proofs.Turns.{Finished, left-ready, finish-first, finish-orderly, finish-next, finish-last}
+use Rattle.chain.proofs.Turns.{Finished, pending-ready, finish-first, finish-orderly, finish-next, finish-last}
 use Rattle.chain.proofs.advance.finish.Statement.{statement}
 use Rattle.chain.proofs.advance.finish.Tie as tie
 
@@ -22,7 +22,7 @@ loop-holds : tie.Need-loop-holds Inv-loop μ-loop
 loop-holds c = (finish-first (c .before .before .before .before .pre .1 .1), refl, refl, refl)
 
 advance-to-end-requires : tie.Need-advance-to-end-requires Inv-loop μ-loop
-advance-to-end-requires c κs = (c .before .before .before .before .before .before .before .before .before .before .before .pre .0, (left-ready (c .before .before .before .before .before .before .loop .inv .0 .left), (omega (arith, c .before .before .before .before .before .loop-test .taken, c .before .before .before .before .before .before .before .before .before .before .before .pre .1 .0), finish-orderly (c .before .before .before .before .before .before .loop .inv .0) (omega (arith, c .before .before .before .before .before .loop-test .taken, c .before .before .before .before .before .before .before .before .before .before .before .pre .1 .0)))))
+advance-to-end-requires c κs = (c .before .before .before .before .before .before .before .before .before .before .before .pre .0, (pending-ready (c .before .before .before .before .before .before .loop .inv .0 .pending), (omega (arith, c .before .before .before .before .before .loop-test .taken, c .before .before .before .before .before .before .before .before .before .before .before .pre .1 .0), finish-orderly (c .before .before .before .before .before .before .loop .inv .0) (omega (arith, c .before .before .before .before .before .loop-test .taken, c .before .before .before .before .before .before .before .before .before .before .before .pre .1 .0)))))
 
 add-k : tie.Need-add-k Inv-loop μ-loop
 add-k c = search needs
@@ -34,7 +34,7 @@ loop-again : tie.Need-loop-again Inv-loop μ-loop
 loop-again c = (finish-next (c .before .before .before .before .before .before .before .before .before .before .before .before .before .before .before .loop .inv .0) (omega (arith, c .before .before .before .before .before .before .before .before .before .before .before .before .before .before .loop-test .taken, c .before .before .before .before .before .before .before .before .before .before .before .before .before .before .before .before .before .before .before .before .pre .1 .0)) (c .before .before .before .before .before .before .before .before .advance-to-end .ensures), search needs, search needs, search needs)
 
 same-length : tie.Need-same-length Inv-loop μ-loop
-same-length c = c .before .loop .inv .0 .left .long
+same-length c = c .before .loop .inv .0 .pending .long
 
 same-length-2 : tie.Need-same-length-2 Inv-loop μ-loop
 same-length-2 c = c .before .loop .inv .1

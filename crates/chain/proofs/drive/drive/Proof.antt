@@ -7,13 +7,13 @@ use borrow.Author.Needs.{needs}
 use denote.Ref.{now}
 use lib.Ieee.{Float}
 use Rattle.line.specs.Held.{Held}
-use Rattle.order.specs.Chain.{State}
+use Rattle.theory_order.specs.Chain.{State}
 use Rattle.answer.specs.Answer.{acceptedOf}
-use Rattle.tops.proofs.TopStages.{tops-found, places-found}
+use Rattle.top_stages.proofs.TopStages.{tops-found, places-found}
 use Rattle.chain.specs.Chain.{state}
 use Rattle.chain.specs.Run.{toEnd}
 use Rattle.chain.specs.Demands.{Arrays, Taken}
-use Rattle.chain.proofs.Running.{can-run, left-by, left-by-not}
+use Rattle.chain.proofs.Running.{can-run, leaves-by, leaves-by-not}
 use Rattle.chain.proofs.drive.drive.Statement.{statement}
 use Rattle.chain.proofs.drive.drive.Tie as tie
 
@@ -67,7 +67,7 @@ unfolding block entries
 returns c =
     let d = c .before .before .before .before .before .before .before .before .before .before .before .before .before .before .before .before .before .before in
     let z = d .before .before .before .before .before .before .before .before .before .before in
-    (d .before .before .check .ensures .0, c .before .before .before .before .before .before .proceed .ensures ∙ sym (left-by (z .args .setup) (block z) (now (z .args .order)) (entries z) (passed d)))
+    (d .before .before .check .ensures .0, c .before .before .before .before .before .before .proceed .ensures ∙ sym (leaves-by (z .args .setup) (block z) (now (z .args .order)) (entries z) (passed d)))
 
 same-length-3 : tie.Need-same-length-3
 same-length-3 c = search needs
@@ -77,7 +77,7 @@ unfolding block entries
 returns-2 c =
     let z = c .before .before .before .before .before .before .before .before .before .before in
     let answer = c .before .before .check .ensures .0 in
-    (answer, sym (left-by-not (z .args .setup) (block z) (now (z .args .order)) (entries z) (ap acceptedOf (sym answer) ∙ sym (c .before .is-accepted .ensures) ∙ c .if1 .left)))
+    (answer, sym (leaves-by-not (z .args .setup) (block z) (now (z .args .order)) (entries z) (ap acceptedOf (sym answer) ∙ sym (c .before .is-accepted .ensures) ∙ c .if1 .left)))
 
 pub drive-spec : {M : Type 1} → statement M
 drive-spec =

@@ -1,4 +1,4 @@
--- One law for the three kinds: each is handed the q that was held to 0.01 and the gain's amplitude. Assumes nothing.
+-- One law for the three kinds: each gets the q, 0.01 at least, and the gain's amplitude. Assumes nothing.
 use mathlib.Core.Path.{_≡_}
 use mir.Syntax.{w32}
 use mir.ValLaws.{toZ-ofZ}

@@ -1,2 +1,0 @@
-// A chain that has not run yet: a fresh start.
-pub mod start;

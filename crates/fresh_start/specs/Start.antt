@@ -1,0 +1,21 @@
+-- "A fresh start makes checks 1 to 5, then clears the needed floats." Definitions only.
+use mathlib.Core.Bool.{cond}
+use mathlib.Core.List.{List, _++_}
+use Prim.Native.Nat.{ℕ}
+use lib.Ieee.{Float, binary32}
+use lib.ListN.{length, replicate, drop}
+use Rattle.float.specs.Literal.{literal}
+use Rattle.stage.specs.declared.setup.Setup.{Setup}
+use Rattle.line_layout.specs.Layout.{neededOf}
+use Rattle.answer.specs.Answer.{acceptedOf}
+use Rattle.refusals.specs.Refusals.{chainAnswer}
+
+-- the store with its first n floats at +0, where it has so many
+unfoldable pub clearedTo : ℕ → List Float → List Float
+clearedTo n store = replicate n (literal binary32 0 1) ++ drop n store
+
+-- what a fresh start leaves in the store: the needed floats cleared, or all as it was where the start is refused
+unfoldable pub startedOf : Setup → List Float → List Float
+unfolding clearedTo
+startedOf setup store =
+    cond (acceptedOf (chainAnswer setup (neededOf setup) (length store))) (clearedTo (neededOf setup) store) store

@@ -1,0 +1,2 @@
+// A fresh start, for a chain that has not run yet.
+pub mod start;

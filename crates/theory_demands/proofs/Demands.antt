@@ -1,0 +1,80 @@
+-- The three demands, in the user's words, each closed by the name of its proof. The statements are definitions of crate `chain` (specs/Table.antt, specs/Demands.antt), about what its public functions answer and leave; those of square root and narrowing are of crate `theory_nearest` (specs/Nearest.antt), and those of amplitudes of crate `decibels` (specs/Power.antt). Assumes nothing.
+use Prim.Native.Nat.{ℕ, _*_}
+use mathlib.Core.Path.{_≡_}
+use mathlib.Core.Bool.{Bool, false}
+use lib.Dec.{T}
+use lib.IntN.{ℤ, pos, negsuc}
+use lib.Signed.{_≤ℤ_}
+use lib.Ieee.{Float, fin, Format, binary32, binary64, up, down, fits}
+use lib.Ieee.Positive.{num, den, positive}
+use Rattle.theory_nearest.specs.Nearest.{Nearest}
+use Rattle.rounding.specs.Root.{sqrtOf}
+use Rattle.rounding.specs.Narrow.{narrowOf}
+use Rattle.theory_nearest.proofs.Evidence as Evidence
+use Rattle.decibels.specs.Amplitude.{amplitudeOf, eqAmplitudeOf}
+use Rattle.decibels.specs.Power.{NearestPower}
+use Rattle.decibels.proofs.AmplitudeRules as Tables
+use Rattle.chain.specs.Table.{AnswersTabled, RenderUnchanged, StartsTabled}
+use Rattle.chain.specs.Demands.{StepByStep, StepsKeepApart, StepsStandAlone, AnyOrder, WholeFrames, CutAnywhere, RenderCutAnywhere, RenderIsRun}
+use Rattle.chain.proofs.TableMet as TableMet
+use Rattle.chain.proofs.DemandsMet as DemandsMet
+use Rattle.chain.proofs.CutMet as CutMet
+
+-- 1. "Any rate, settings, samples, memories, line store, progress and step order may be passed in. What meets none of document 01's eleven refusals is rendered. A refusal comes exactly under its condition, gives its number and place, and changes no sample, line, memory or progress."
+pub demand-1 : AnswersTabled
+demand-1 = TableMet.answers-tabled
+
+pub demand-1-render : RenderUnchanged
+demand-1-render = TableMet.render-unchanged
+
+pub demand-1-start : StartsTabled
+demand-1-start = TableMet.starts-tabled
+
+-- 2. "Each accepted step gives the Rust's bits": an accepted order is its single steps, and each is the step of the definitions, which are compared with the Rust by running it (compare/)
+pub demand-2 : StepByStep
+demand-2 = DemandsMet.step-by-step
+
+-- "Square root and narrowing are proved against IEEE 754"
+pub demand-2-root : (f : Format) (x : Float) → T (fits f x) → T (positive x) → Nearest f false 2 (num x) (den x) (sqrtOf f x)
+demand-2-root = Evidence.sqrt-nearest
+
+pub demand-2-narrowing : (f : Format) (s : Bool) (m : ℕ) (e : ℤ) → Nearest f s 1 (m * up e) (down e) (narrowOf f (fin s m e))
+demand-2-narrowing = Evidence.narrow-nearest
+
+pub demand-2-only : (f : Format) (s : Bool) (j n d : ℕ) (y z : Float) → Nearest f s j n d y → Nearest f s j n d z → y ≡ z
+demand-2-only = Evidence.only-nearest
+
+-- "amplitudes against the nearest float to the power of ten"
+pub demand-2-amplitude : (z : ℤ) → negsuc 58 ≤ℤ z → z ≤ℤ pos 24 → NearestPower binary32 20 z (amplitudeOf z)
+demand-2-amplitude = Tables.amplitude-rule
+
+pub demand-2-eq-amplitude : (z : ℤ) → negsuc 23 ≤ℤ z → z ≤ℤ pos 24 → NearestPower binary64 40 z (eqAmplitudeOf z)
+demand-2-eq-amplitude = Tables.eq-amplitude-rule
+
+-- 3. "A step runs one stage on its next frame, never ahead of the stage before it."
+pub demand-3-step : StepsKeepApart
+demand-3-step = DemandsMet.steps-keep-apart
+
+-- document 01: "floats past the last line never change" (above), "and a step's answer doesn't depend on them or on lines of stages it doesn't run"
+pub demand-3-alone : StepsStandAlone
+demand-3-alone = DemandsMet.steps-stand-alone
+
+-- "From equal rate, settings, samples, lines, memories and progress, any two accepted orders that name each stage equally often leave all of these equal."
+pub demand-3-any-order : AnyOrder
+demand-3-any-order = DemandsMet.any-order
+
+-- "An order that brings every stage from nothing to the last frame leaves what demand 2's rendering, whole frame after whole frame, leaves."
+pub demand-3-whole-frames : WholeFrames
+demand-3-whole-frames = DemandsMet.whole-frames
+
+-- "Cutting an accepted, unstarted block at any frame and running each part to its end leaves the output, lines and memories that running it whole to its end leaves."
+pub demand-3-cut : CutAnywhere
+demand-3-cut = CutMet.cut-anywhere
+
+-- and so it is with `render`, where no order is given
+pub demand-3-render-cut : RenderCutAnywhere
+demand-3-render-cut = CutMet.render-cut-anywhere
+
+-- and `render` is such an order
+pub render-is-run : RenderIsRun
+render-is-run = DemandsMet.render-is-run
