@@ -1,4 +1,4 @@
-// Links libface.a and libwav_face.a, which `rt staticlib` writes: from SEDHAVIL_LIBRARY, or from this
+// Links libsedhavil.a and libsedhavil_wav.a, which `rt staticlib` writes: from SEDHAVIL_LIBRARY, or from this
 // repository.
 use std::path::PathBuf;
 
@@ -9,7 +9,7 @@ fn main() {
     };
     println!("cargo:rerun-if-env-changed=SEDHAVIL_LIBRARY");
     println!("cargo:rustc-link-search=native={}", folder.display());
-    for name in ["face", "wav_face"] {
+    for name in ["sedhavil", "sedhavil_wav"] {
         let library = folder.join(format!("lib{name}.a"));
         assert!(library.exists(), "{} is not there: run `rt staticlib {name}` first", library.display());
         println!("cargo:rerun-if-changed={}", library.display());

@@ -1,38 +1,28 @@
-//! An echo: a delay of one frame and a volume of 0 dB over the frames 1, 0, 0 (docs/EXAMPLE.md). Rendered
-//! whole, then cut after the first frame, which cannot make a difference; then an order in which the second
-//! stage would run ahead of the first. `bindings/rust/run` builds and runs this.
+//! An echo in three blocks of two frames: 1, 0 and then silence, through a delay of two frames. Its feedback
+//! falls silent before the third block. `bindings/rust/run` builds and runs this.
+use sedhavil::{Chain, Stage};
 
-use sedhavil::{Chain, Refusal, Stage, floats_needed};
-
-const RATE: u32 = 48_000;
-const STAGES: [Stage; 2] =
-    [Stage::Delay { frames: 1, feedback: 0, mix: 1.0, owned: 0 }, Stage::VolumeControl { volume: 0 }];
-const INPUT: [f32; 6] = [1.0, 1.0, 0.0, 0.0, 0.0, 0.0];
-
-fn print_left(name: &str, samples: &[f32]) {
-    let left: Vec<String> = samples.chunks(2).map(|frame| frame[0].to_string()).collect();
-    println!("{name}: {}", left.join(" "));
+fn echo(feedback: i32) -> Stage {
+    Stage::Delay { frames: 2, feedback, mix: 1.0, owned: 0 }
 }
 
-fn main() -> Result<(), Refusal> {
-    println!("floats needed: {}", floats_needed(RATE, &STAGES)?);
-
-    let mut chain = Chain::new(RATE, &STAGES)?;
-    let mut whole = INPUT;
-    chain.render(&mut whole)?;
-    print_left("whole", &whole);
-
-    chain.start()?;
-    let mut parts = INPUT;
-    let (first, second) = parts.split_at_mut(2);
-    chain.render(first)?;
-    chain.render(second)?;
-    print_left("in parts", &parts);
-
-    chain.start()?;
-    let mut again = INPUT;
-    if let Err(refusal) = chain.block(&mut again).run(&[1, 0]) {
-        println!("order 1 0: refusal {} at place {}", refusal.number(), refusal.place());
+fn render() -> Result<(), Box<dyn std::error::Error>> {
+    let mut chain = Chain::new(48_000, &[echo(0)])?;
+    println!("floats needed: {}", chain.store().len());
+    let blocks = [[1.0, 1.0, 0.0, 0.0], [0.0; 4], [0.0; 4]]; // left and right in turn
+    for (number, mut samples) in (1..).zip(blocks) {
+        if number == 3 {
+            chain.set(0, echo(-60))?;
+        }
+        chain.render(&mut samples)?;
+        println!("block {number}: {} {}", samples[0], samples[2]);
     }
     Ok(())
+}
+
+fn main() {
+    if let Err(refused) = render() {
+        eprintln!("{refused}");
+        std::process::exit(1);
+    }
 }

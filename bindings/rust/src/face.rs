@@ -1,14 +1,22 @@
-//! The exported functions of `crates/face` and `crates/wav_face`, each taking slices: the one place with
-//! `unsafe`.
+//! The exported functions of `crates/sedhavil` and `crates/sedhavil_wav`, each taking slices: the one place
+//! with `unsafe`. `compare/` takes this file in by its path.
 //!
 //! A slice goes over as a pointer and a length. Rust's own rules for slices are what the proofs take for
 //! granted: each points to that many elements, and what is lent by `&mut` overlaps nothing else.
 
 #[repr(C)]
 #[derive(Clone, Copy)]
-pub struct Answer {
+pub struct Reply {
     pub number: u32,
     pub place: usize,
+}
+
+#[repr(C)]
+#[derive(Clone, Copy)]
+pub struct Room {
+    pub number: u32,
+    pub place: usize,
+    pub floats: usize,
 }
 
 #[repr(C)]
@@ -38,7 +46,7 @@ unsafe extern "C" {
         progress_length: usize,
         order: *const usize,
         order_length: usize,
-    ) -> Answer;
+    ) -> Reply;
 
     fn sedhavil_render(
         rate: u32,
@@ -54,7 +62,7 @@ unsafe extern "C" {
         store_length: usize,
         progress: *mut usize,
         progress_length: usize,
-    ) -> Answer;
+    ) -> Reply;
 
     fn sedhavil_start(
         rate: u32,
@@ -66,20 +74,20 @@ unsafe extern "C" {
         floats_length: usize,
         store: *mut f32,
         store_length: usize,
-    ) -> Answer;
+    ) -> Reply;
 
-    fn sedhavil_floats_needed(rate: u32, stages: *const u64, stages_length: usize) -> Answer;
+    fn sedhavil_floats_needed(rate: u32, stages: *const u64, stages_length: usize) -> Room;
 
-    fn sedhavil_wav_header(bytes: *const u8, bytes_length: usize, most: u32) -> WavHeader;
+    fn sedhavil_wav_header(bytes: *const u8, bytes_length: usize, highest: u32) -> WavHeader;
 
-    fn sedhavil_frames_in(
+    fn sedhavil_wav_frames_in(
         bytes: *const u8,
         bytes_length: usize,
         samples: *mut f32,
         samples_length: usize,
     ) -> usize;
 
-    fn sedhavil_frames_out(
+    fn sedhavil_wav_frames_out(
         samples: *const f32,
         samples_length: usize,
         bytes: *mut u8,
@@ -101,7 +109,7 @@ pub fn run(
     store: &mut [f32],
     progress: &mut [usize],
     order: &[usize],
-) -> Answer {
+) -> Reply {
     // SAFETY: each pointer and length is a slice's, and the function is proved to stay within them.
     unsafe {
         sedhavil_run(
@@ -132,7 +140,7 @@ pub fn render(
     floats: &mut [f32],
     store: &mut [f32],
     progress: &mut [usize],
-) -> Answer {
+) -> Reply {
     // SAFETY: as of `run`.
     unsafe {
         sedhavil_render(
@@ -159,7 +167,7 @@ pub fn start(
     positions: &mut [usize],
     floats: &mut [f32],
     store: &mut [f32],
-) -> Answer {
+) -> Reply {
     // SAFETY: as of `run`.
     unsafe {
         sedhavil_start(
@@ -176,22 +184,22 @@ pub fn start(
     }
 }
 
-pub fn floats_needed(rate: u32, stages: &[u64]) -> Answer {
+pub fn floats_needed(rate: u32, stages: &[u64]) -> Room {
     // SAFETY: as of `run`.
     unsafe { sedhavil_floats_needed(rate, stages.as_ptr(), stages.len()) }
 }
 
-pub fn wav_header(bytes: &[u8], most: u32) -> WavHeader {
+pub fn wav_header(bytes: &[u8], highest: u32) -> WavHeader {
     // SAFETY: as of `run`.
-    unsafe { sedhavil_wav_header(bytes.as_ptr(), bytes.len(), most) }
+    unsafe { sedhavil_wav_header(bytes.as_ptr(), bytes.len(), highest) }
 }
 
 pub fn frames_in(bytes: &[u8], samples: &mut [f32]) -> usize {
     // SAFETY: as of `run`.
-    unsafe { sedhavil_frames_in(bytes.as_ptr(), bytes.len(), samples.as_mut_ptr(), samples.len()) }
+    unsafe { sedhavil_wav_frames_in(bytes.as_ptr(), bytes.len(), samples.as_mut_ptr(), samples.len()) }
 }
 
 pub fn frames_out(samples: &[f32], bytes: &mut [u8]) -> usize {
     // SAFETY: as of `run`.
-    unsafe { sedhavil_frames_out(samples.as_ptr(), samples.len(), bytes.as_mut_ptr(), bytes.len()) }
+    unsafe { sedhavil_wav_frames_out(samples.as_ptr(), samples.len(), bytes.as_mut_ptr(), bytes.len()) }
 }

@@ -5,7 +5,8 @@
 //!
 //! # let file = *b"RIFF\x2c\0\0\0WAVEfmt \x10\0\0\0\x01\0\x02\0\x80\xbb\0\0\0\xee\x02\0\x04\0\x10\0data\x08\0\0\0\0\x40\0\xc0\xff\x7f\0\x80";
 //! let (header, data) = file.split_at(wav::HEADER);
-//! assert_eq!(Header::read(header, 192_000)?, Header { rate: 48_000, size: 8 });
+//! let header = Header::read(header, 192_000)?;
+//! assert_eq!((header.rate, header.size), (48_000, 8));
 //! let mut samples = [0.0; 4];
 //! assert_eq!(wav::frames_in(data, &mut samples), 2);
 //! assert_eq!(samples, [0.5, -0.5, 32_767.0 / 32_768.0, -1.0]);
@@ -13,60 +14,59 @@
 //! ```
 
 use crate::face;
-use std::fmt;
+use std::{error, fmt};
 
-/// The bytes of a header; the data follow.
+/// How many bytes a header has. The data follow.
 pub const HEADER: usize = 44;
 
 /// What a header says.
 #[derive(Clone, Copy, Debug, PartialEq, Eq, Hash)]
+#[non_exhaustive]
 pub struct Header {
+    /// The rate, in frames a second.
     pub rate: u32,
-    /// The bytes of data to come.
+    /// How many bytes of data are to come.
     pub size: u32,
 }
 
-/// The first reason for which a header is not read: `Short`, then the others in this order.
-#[derive(Clone, Copy, Debug, PartialEq, Eq, Hash)]
-pub enum Refusal {
-    /// 21: a chunk name is wrong, fmt's size is not 16, or RIFF's is not that of the data + 36.
-    Names,
-    /// 22: it is not tag 1, two channels, 16 bits, blocks of 4 and a byte rate of four times the rate.
-    Format,
-    /// 23: the rate is below 8,000, above 192,000 or above the one asked for.
-    Rate,
-    /// 24: the size of the data is not a multiple of 4.
-    Size,
-    /// 25: there are fewer than 44 bytes.
-    Short,
-}
-
 impl Header {
-    /// What the first 44 bytes say to a program that takes rates up to `most`.
-    pub fn read(bytes: &[u8], most: u32) -> Result<Self, Refusal> {
-        let face::WavHeader { number, rate, size } = face::wav_header(bytes, most);
+    /// Reads what the first 44 bytes say, for a program that takes rates up to `highest`.
+    pub fn read(bytes: &[u8], highest: u32) -> Result<Self, Refusal> {
+        let face::WavHeader { number, rate, size } = face::wav_header(bytes, highest);
         match number {
             0 => Ok(Header { rate, size }),
-            21 => Err(Refusal::Names),
-            22 => Err(Refusal::Format),
-            23 => Err(Refusal::Rate),
-            24 => Err(Refusal::Size),
-            25 => Err(Refusal::Short),
-            number => unreachable!("a header's answer {number}"),
+            _ => Err(Refusal::of(number)),
         }
     }
 }
 
+/// Why a header is not read: the first reason, `Short` before all others, which are in order.
+#[derive(Clone, Copy, Debug, PartialEq, Eq, Hash)]
+#[non_exhaustive]
+pub enum Refusal {
+    /// Refusal 21: a chunk name is wrong, fmt's size is not 16, or RIFF's is not that of the data + 36.
+    Names = 21,
+    /// Refusal 22: it is not tag 1, two channels, 16 bits, blocks of 4 and a byte rate of 4 times the rate.
+    Format = 22,
+    /// Refusal 23: the rate is below 8,000, above 192,000 or above the one asked for.
+    Rate = 23,
+    /// Refusal 24: the size of the data is not a multiple of 4.
+    Size = 24,
+    /// Refusal 25: there are fewer than 44 bytes.
+    Short = 25,
+}
+
 impl Refusal {
+    const ALL: [Refusal; 5] = [Refusal::Names, Refusal::Format, Refusal::Rate, Refusal::Size, Refusal::Short];
+
     /// Document 01's number.
     pub fn number(self) -> u32 {
-        match self {
-            Refusal::Names => 21,
-            Refusal::Format => 22,
-            Refusal::Rate => 23,
-            Refusal::Size => 24,
-            Refusal::Short => 25,
-        }
+        self as u32
+    }
+
+    fn of(number: u32) -> Self {
+        let found = Refusal::ALL.into_iter().find(|refusal| refusal.number() == number);
+        found.unwrap_or_else(|| unreachable!("a header's answer {number}"))
     }
 }
 
@@ -83,16 +83,16 @@ impl fmt::Display for Refusal {
     }
 }
 
-impl std::error::Error for Refusal {}
+impl error::Error for Refusal {}
 
-/// Bytes become samples, each s / 32768: as many whole frames as both sides have room for, which is the
-/// answer. What lies past them is as it was.
+/// Turns bytes into samples, each s / 32768: as many whole frames as both sides have room for, and gives
+/// their number. What lies past them stays as it was.
 pub fn frames_in(bytes: &[u8], samples: &mut [f32]) -> usize {
     face::frames_in(bytes, samples)
 }
 
-/// Samples become bytes in the same way: each the nearest whole number to 32768 x, ties to even, held to
-/// -32768..32767, NaN as 0.
+/// Turns samples into bytes in the same way: each becomes the nearest whole number to 32768 x, ties to even,
+/// clamped to -32768..32767, and NaN becomes 0.
 pub fn frames_out(samples: &[f32], bytes: &mut [u8]) -> usize {
     face::frames_out(samples, bytes)
 }
