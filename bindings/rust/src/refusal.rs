@@ -1,4 +1,4 @@
-//! Why a call is refused: document 01's table.
+//! Why a call is refused: the specification's table.
 
 use crate::LAYOUT_VERSION;
 use crate::face::Reply;
@@ -8,7 +8,7 @@ use std::{error, fmt};
 /// condition: the cases, what they say, and both ways between a case and its number and place.
 macro_rules! refusals {
     ($($number:literal $case:ident $(($place:ident: $usize:ty))? $condition:literal)*) => {
-        /// Why a call is refused: the first condition of document 01's table that it meets.
+        /// Why a call is refused: the first condition of the specification's table that it meets, in this order.
         ///
         /// The stages of a list are counted from 0. Top stages, which no delay owns, are counted among
         /// themselves from 0.
@@ -22,14 +22,15 @@ macro_rules! refusals {
         }
 
         impl Refusal {
-            /// Document 01's number.
+            /// The number that the specification gives this refusal.
             pub fn number(self) -> u32 {
                 match self {
                     $(Refusal::$case { .. } => $number,)*
                 }
             }
 
-            /// Document 01's place: of a short store the floats needed, and 0 where there is none to give.
+            /// Where the call goes wrong, as this case has it: a stage, a top stage, a sample or an entry; of a
+            /// store that is too short the floats needed; and 0 where there is nothing to name.
             pub fn place(self) -> usize {
                 match self {
                     $(Refusal::$case $(($place))? => 0 $(+ $place)?,)*

@@ -59,7 +59,7 @@ pub enum Refusal {
 impl Refusal {
     const ALL: [Refusal; 5] = [Refusal::Names, Refusal::Format, Refusal::Rate, Refusal::Size, Refusal::Short];
 
-    /// Document 01's number.
+    /// The number that the specification gives this refusal.
     pub fn number(self) -> u32 {
         self as u32
     }
