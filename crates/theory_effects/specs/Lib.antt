@@ -1,0 +1,4 @@
+pub mod Line
+pub mod Effects
+pub mod Process
+pub mod Standing
