@@ -1,2 +1,3 @@
 pub mod Deep
 pub mod Joined
+pub mod Built
