@@ -81,8 +81,7 @@ lines-of (n ∷ ns) store [] s q on = absurd (omega arith)
 lines-of (n ∷ ns) store (p ∷ ps) s q on =
     let own : length (take n store) ≡ n = length-take-le n store (omega arith) in
     let l = on-line (take n store) p (omega (arith, own, on 0 (omega arith))) in
-    let r = lines-of ns (drop n store) ps (omega (arith, length-drop n store)) (omega arith) (λ k h. on (suc k) (omega arith)) in
-    (
+    let r = lines-of ns (drop n store) ps (omega (arith, length-drop n store)) (omega arith) (λ k h. on (suc k) (omega arith)) in (
       l .0 ∷ r .0,
       (λ t. joined (holds (l .1 t) (l .2 t ∷ []) []) (r .1 t)) ∙ ap (λ xs. holds xs (p ∷ ps) []) (take-append-drop n store),
       λ t. (ap length (l .1) ∙ own) t ∷ r .2 t,
@@ -96,8 +95,7 @@ combs-on [] [] e = ([], refl, refl)
 combs-on [] (f ∷ fs) e = absurd (omega arith)
 combs-on (l ∷ ls) [] e = absurd (omega arith)
 combs-on (l ∷ ls) (f ∷ fs) e =
-    let r = combs-on ls fs (omega arith) in
-    (
+    let r = combs-on ls fs (omega arith) in (
       record { line = l; filterStore = f } ∷ r .0,
       ap (joined (holds (buffer l) (position l ∷ []) (f ∷ []))) (r .1),
       ap (λ ns. length (buffer l) ∷ ns) (r .2),
@@ -124,8 +122,7 @@ side-of ns h n s on =
     let za = front-sizes _ sideCombs sideCombs _ 4 0 h z in
     let zb = back-sizes _ sideCombs sideCombs _ 4 0 h z in
     let c = combs-of (take sideCombs ns) a (rw few za) (on-front sideCombs ns (h .positions) on) in
-    let l = lines-of (drop sideCombs ns) (b .store) (b .positions) (zb .store) (omega (arith, zb .positions, length-drop sideCombs ns)) (on-back sideCombs ns (h .positions) on) in
-    (
+    let l = lines-of (drop sideCombs ns) (b .store) (b .positions) (zb .store) (omega (arith, zb .positions, length-drop sideCombs ns)) (on-back sideCombs ns (h .positions) on) in (
       record { combs = c .0; passes = l .0 },
       (λ t. joined (c .1 t) ((l .1 ∙ ap (holds (b .store) (b .positions)) (sym (empty (b .floats) (zb .floats)))) t)) ∙ parted (total (take sideCombs ns)) sideCombs sideCombs h,
       record { combs = c .2; passes = l .2 },
@@ -156,8 +153,7 @@ sides-of ls rs h p q s on =
     let d = back (total rs) sideLines sideCombs b in
     let zd = back-sizes (total rs) sideLines sideCombs 0 0 4 b y in
     let l = side-of ls a p (front-sizes (total ls) sideLines sideCombs (total rs) sideLines 12 h z) (on-left sideLines ls rs (h .positions) p on) in
-    let r = side-of rs c q (front-sizes (total rs) sideLines sideCombs 0 0 4 b y) (rw (take-all sideLines (b .positions) (omega (arith, zb .positions))) (on-right sideLines ls rs (h .positions) p on)) in
-    (
+    let r = side-of rs c q (front-sizes (total rs) sideLines sideCombs 0 0 4 b y) (rw (take-all sideLines (b .positions) (omega (arith, zb .positions))) (on-right sideLines ls rs (h .positions) p on)) in (
       l .0,
       r .0,
       record { positions = d .positions; floats = d .floats },
@@ -169,7 +165,7 @@ sides-of ls rs h p q s on =
 
 pub reverb-of : (rate : ℕ) (h : Held) → Sizes (total (reverbLines rate)) placePositions placeFloats h → OnLines (reverbLines rate) (h .positions)
     → (left : Side) × (right : Side) × (spare : Spare) × (joined (sideHeld left) (joined (sideHeld right) (spareHeld spare)) ≡ h)
-      × FullSide (map (λ n. lengthOf n rate) tunings) left × FullSide (map (λ n. lengthOf (n + 23) rate) tunings) right × FullPlace lineCount combCount spare
+    × FullSide (map (λ n. lengthOf n rate) tunings) left × FullSide (map (λ n. lengthOf (n + 23) rate) tunings) right × FullPlace lineCount combCount spare
 unfolding reverbLines
 reverb-of rate h s on = sides-of (map (λ n. lengthOf n rate) tunings) (map (λ n. lengthOf (n + 23) rate) tunings) h refl refl s on
 
@@ -208,8 +204,7 @@ remembering-of h s =
     let zb = back-sizes 0 placePositions combCount 0 0 4 h z in
     let f = frames-of 2 (b .floats) (zb .floats) in
     let m = two-frames (f .0) (f .2) in
-    let held : memoryHeld (m .0) ≡ b = m .1 ∙ (λ t. holds (sym (empty (b .store) (zb .store)) t) (sym (empty (b .positions) (zb .positions)) t) (f .1 t)) in
-    (
+    let held : memoryHeld (m .0) ≡ b = m .1 ∙ (λ t. holds (sym (empty (b .store) (zb .store)) t) (sym (empty (b .positions) (zb .positions)) t) (f .1 t)) in (
       m .0,
       record { positions = a .positions; floats = a .floats },
       ap (joined a) held ∙ parted 0 placePositions combCount h,
@@ -221,8 +216,7 @@ pub delay-of : (frames : ℕ) (h : Held) → Sizes (2 * frames) placePositions p
 unfolding joined
 delay-of frames h s on =
     let f = frames-of frames (h .store) (s .store) in
-    let l = on-line (f .0) (getD (h .positions) 0 0) (omega (arith, f .2)) in
-    (
+    let l = on-line (f .0) (getD (h .positions) 0 0) (omega (arith, f .2)) in (
       l .0,
       record { positions = drop 1 (h .positions); floats = h .floats },
       ap length (l .1) ∙ f .2,
