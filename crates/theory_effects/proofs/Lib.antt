@@ -5,3 +5,4 @@ pub mod Sized
 pub mod Kept
 pub mod Deep
 pub mod Steps
+pub mod Built
