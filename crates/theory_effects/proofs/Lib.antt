@@ -5,4 +5,5 @@ pub mod Sized
 pub mod Kept
 pub mod Deep
 pub mod Steps
+pub mod Depths
 pub mod Built
