@@ -1,3 +1,4 @@
 pub mod Deep
 pub mod Joined
 pub mod Built
+pub mod Trees
