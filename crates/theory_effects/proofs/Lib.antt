@@ -1,4 +1,10 @@
-pub mod Deep
 pub mod Joined
+pub mod Lines
+pub mod Reverbs
+pub mod Sized
+pub mod Kept
+pub mod Deep
+pub mod Steps
+pub mod Depths
 pub mod Built
 pub mod Trees

@@ -32,8 +32,7 @@ inTurn f x (a ∷ rest) =
 unfoldable pub combStep : Float → Float → Float → Float → Comb → Float × Comb
 combStep feedback damp input sum comb =
     let output = comb .line .here in
-    let store = storeOf damp (comb .filterStore) output in
-    (
+    let store = storeOf damp (comb .filterStore) output in (
       add binary32 sum output,
       record { line = stored (add binary32 input (mul binary32 store feedback)) (comb .line); filterStore = store },
     )
@@ -56,6 +55,7 @@ sideStep feedback damping input side =
 
 unfoldable mutual
   unfolding sideStep
+
   -- one frame through an effect. A delay: "take the oldest frame, run it through the feedback stages, multiply by the
   -- feedback amplitude: this is the wet frame. Store input plus wet. Mix wet with input"
   pub process : Effect → Frame → Frame × Effect

@@ -73,6 +73,7 @@ memoryHeld memory = holds [] [] (sideBySide (memory .ic1eq ∷ (memory .ic2eq �
 
 unfoldable mutual
   unfolding joined sideHeld memoryHeld sideBySide
+
   -- what an effect holds, with what its list place remembers besides; what a delay's feedback effects hold comes last
   pub heldIn : Effect → Spare → Held
   heldIn (volumeControl volume) spare = spareHeld spare

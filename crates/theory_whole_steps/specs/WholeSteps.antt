@@ -1,0 +1,68 @@
+-- An accepted step is whole: it is a frame through an effect as kira has it (crate theory_effects), whatever the
+-- definition of a step does where lines are too short, the list ends too early or stages are too deep. Definitions only.
+use mathlib.Core.Path.{_≡_}
+use mathlib.Core.List.{List, [], _∷_, map}
+use Prim.Native.Nat.{ℕ, _*_}
+use lib.Ieee.{Float}
+use lib.ListN.{length, take}
+use Rattle.frame.specs.declared.Frame.{Frame}
+use Rattle.line.specs.Held.{Held, joined}
+use Rattle.theory_order.specs.Stretch.{part}
+use Rattle.theory_order.specs.Chain.{State, at}
+use Rattle.memories.specs.Sizes.{places}
+use Rattle.stage.specs.declared.kind.Stage.{Stage}
+use Rattle.stage.specs.declared.setup.Slot.{Slot}
+use Rattle.stage.specs.declared.setup.Setup.{Setup}
+use Rattle.chain.specs.Run.{leavesOf}
+use Rattle.chain.specs.Demands.{Arrays, Taken, nextFrame}
+use Rattle.theory_effects.specs.Effects.{Effect, Effects, Spare, next, followedBy, howMany}
+use Rattle.theory_effects.specs.Process.{process}
+use Rattle.theory_effects.specs.Standing.{stagesOf, heldOf, AllFull}
+
+-- the list has as many places as the type of its array says
+abbrev pub AllPlaces : Setup → Type 0
+AllPlaces setup = length (setup .slots) ≡ places
+
+-- the stages of the list, as many as its count says
+abbrev pub listed : Setup → List Stage
+listed setup = map (λ (slot : Slot). slot .stage) (take (setup .count) (setup .slots))
+
+-- the two samples of a frame
+abbrev pub samplesOf : Frame → List Float
+samplesOf x = x .left ∷ (x .right ∷ [])
+
+-- these effects are those of the list, each whole, and what they hold is at the front of what is held; `past` are the
+-- floats past the last line, and what list places past the last stage remember
+pub record StandFor (setup : Setup) (h : Held) (effects : Effects) (past : Held) : Type 0 where
+  pub stages : stagesOf effects ≡ listed setup
+  pub full : AllFull (setup .rate) effects
+  pub held : h ≡ joined (heldOf effects) past
+
+-- z is s after a step of top stage k, as kira takes it. That no other sample, line, memory or progress has changed is
+-- said by `OneStep` of crate chain
+pub record WholeStep (setup : Setup) (k : ℕ) (s z : State Float Held) (effects : Effects) (past : Held) : Type 0 where
+  -- the effect that is run: so many top effects come before it in the list
+  pub before : Effects
+  pub effect : Effect
+  pub spare : Spare
+  pub after : Effects
+  pub parts : effects ≡ followedBy before (next effect spare after)
+  pub number : howMany before ≡ k
+  -- the frame that it is given is its next one
+  pub input : Frame
+  pub given : nextFrame setup k s ≡ samplesOf input
+  -- in its place is what the effect makes of it, and the effects now held are the same, but for what this one has become
+  pub output : part (at s k * 2) 2 (z .samples) ≡ samplesOf (process effect input .0)
+  pub held : StandFor setup (z .held) (followedBy before (next (process effect input .1) spare after)) past
+
+-- "what meets none of document 01's eleven refusals is rendered": the list of every accepted call, with what it holds,
+-- is one of effects, each with all of its lines and all of the effects inside it
+abbrev pub EffectsStand : Type 0
+EffectsStand = (setup : Setup) (s : State Float Held) (order : List ℕ) → AllPlaces setup → Arrays s
+    → Taken setup s order → (effects : Effects) × (past : Held) × StandFor setup (s .held) effects past
+
+-- "each accepted step gives the Rust's bits": it is a frame through one of these effects, and leaves the others
+abbrev pub StepsWhole : Type 0
+StepsWhole = (setup : Setup) (s : State Float Held) (k : ℕ) (effects : Effects) (past : Held) → AllPlaces setup
+    → Arrays s → Taken setup s (k ∷ []) → StandFor setup (s .held) effects past
+    → WholeStep setup k s (leavesOf setup s (k ∷ [])) effects past
