@@ -7,3 +7,4 @@ pub mod Deep
 pub mod Steps
 pub mod Depths
 pub mod Built
+pub mod Trees

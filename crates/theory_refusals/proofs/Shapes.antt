@@ -1,12 +1,10 @@
 -- What a list without a faulty stage looks like: what each stage owns ends inside the list and inside what its owners own, and no stage is deeper than 3. Assumes nothing.
 use mathlib.Core.Path.{_≡_, ap, _∙_}
 use mathlib.Core.Logic.{inl, inr}
-use mathlib.Core.Bool.{cond}
 use Prim.Native.Nat.{ℕ, zero, suc, _+_, _≤_, _<_}
 use native.Mathlib.Omega.{arith}
 use native.Mathlib.Decide.{decLt}
 use native.Mathlib.Nat.{lt-of-not-le}
-use native.Mathlib.Numerals.{add-one}
 use borrow.Author.Tests.{le-leb, lt-leb}
 use Rattle.stage.specs.declared.setup.Setup.{Setup}
 use Rattle.stage.specs.Setup.{usedOf}

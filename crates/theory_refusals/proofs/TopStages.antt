@@ -1,6 +1,6 @@
 -- In a list without a faulty stage the top stages are those of depth 0, and each owns the stages up to the next one. Assumes nothing.
 use mathlib.Core.Path.{_≡_, refl, ap, sym, _∙_}
-use Prim.Native.Nat.{ℕ, zero, suc, _+_, _≤_, _<_}
+use Prim.Native.Nat.{ℕ, zero, suc, _≤_, _<_}
 use native.Mathlib.Omega.{arith}
 use native.Mathlib.Decide.{decLt}
 use native.Mathlib.Numerals.{add-one}
@@ -44,7 +44,7 @@ module _ (setup : Setup) where
         ap (topAt setup) (sym (add-one k)) ∙ omega arith
 
     -- what a stage before a top stage owns ends before it
-    ends-before : (n j : ℕ) → n ≤ topsOf setup → j < topAt setup n → lastOf setup j < topAt setup n
+    pub ends-before : (n j : ℕ) → n ≤ topsOf setup → j < topAt setup n → lastOf setup j < topAt setup n
     ends-before n j h g =
         let t = top-over n j g in
         let k : t .0 < topsOf setup = omega (arith, t .1) in

@@ -44,12 +44,12 @@ Good setup i e ps = (j k : ℕ) → i ≤ j → j < e → k < length (linesAt se
 module _ (setup : Setup) where
   -- ---- of the places up to m, of those from m on, and of both together
 
-  good-front : (i m e : ℕ) (ps : List ℕ) → m ≤ e → Good setup i e ps → Good setup i m (take (placePositions * (m - i)) ps)
+  pub good-front : (i m e : ℕ) (ps : List ℕ) → m ≤ e → Good setup i e ps → Good setup i m (take (placePositions * (m - i)) ps)
   good-front i m e ps h g j k a b c =
       let few = few-lines (setup .rate) (stageAt setup j) in
       rw (getD-take (placePositions * (m - i)) ps (placePositions * (j - i) + k) 0 (omega arith)) (g j k a (omega arith) c)
 
-  good-back : (i m e : ℕ) (ps : List ℕ) → i ≤ m → Good setup i e ps → Good setup m e (drop (placePositions * (m - i)) ps)
+  pub good-back : (i m e : ℕ) (ps : List ℕ) → i ≤ m → Good setup i e ps → Good setup m e (drop (placePositions * (m - i)) ps)
   good-back i m e ps h g j k a b c =
       let x : placePositions * (m - i) + (placePositions * (j - m) + k) ≡ placePositions * (j - i) + k = omega arith in
       rw (getD-drop (placePositions * (m - i)) ps (placePositions * (j - m) + k) 0, x) (g j k (omega arith) b c)
