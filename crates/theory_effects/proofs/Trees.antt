@@ -17,69 +17,58 @@ use Rattle.stage.proofs.Listed.{from-length, from-parts}
 use Rattle.line_layout.specs.Lines.{lengthsOf, elementFloats, linesOf, floatsOf}
 use Rattle.line_layout.specs.Layout.{startOf}
 use Rattle.line_layout.proofs.LineStarts.{start-le}
-use Rattle.refusals.specs.Shape.{lastOf, depthOf}
+use Rattle.refusals.specs.Shape.{lastOf}
 use Rattle.theory_refusals.specs.TopStages.{NoneFaulty}
-use Rattle.theory_refusals.proofs.Shapes.{depth-owned, depth-more, owned-whole, not-deep}
+use Rattle.theory_refusals.proofs.Shapes.{owned-whole}
 use Rattle.theory_steps.proofs.Moved.{OnLines}
 use Rattle.theory_steps.proofs.OnLines.{Good, good-front, good-back}
 use Rattle.theory_effects.specs.Effects.{Spare, Effect, volumeControl, panningControl, distortion, filter, eqFilter, reverb, delay, Effects, none, next}
 use Rattle.theory_effects.specs.Standing.{stagesIn, stagesOf, heldIn, heldOf, Full, AllFull}
-use Rattle.theory_effects.proofs.Deep.{deepIn, deep}
 use Rattle.theory_effects.proofs.Joined.{Sizes, joined-none, joined-assoc}
+use Rattle.theory_effects.proofs.Steps.{first-stage}
 use Rattle.theory_effects.proofs.Built.{parted, front-sizes, back-sizes, nothing-held, plain-of, remembering-of, reverb-of, delay-of}
 
 -- ---- effects without stages are none
 
-some-stage : (effect : Effect) → 0 < length (stagesIn effect)
-unfolding stagesIn
-some-stage (volumeControl volume) = omega arith
-some-stage (panningControl panning) = omega arith
-some-stage (distortion kind drive mix) = omega arith
-some-stage (filter mode g resonance mix memory) = omega arith
-some-stage (eqFilter kind g gain q memory) = omega arith
-some-stage (reverb feedback damping width mix left right) = omega arith
-some-stage (delay feedback mix line effects) = omega arith
-
 no-effects : (effects : Effects) → length (stagesOf effects) ≡ 0 → none ≡ effects
 unfolding stagesOf
 no-effects none e = refl
-no-effects (next effect spare effects) e = absurd (omega (arith, length-append (stagesIn effect) (stagesOf effects), some-stage effect))
+no-effects (next effect spare effects) e = absurd (omega (arith, length-append (stagesIn effect) (stagesOf effects), ap length (first-stage effect .2)))
 
 -- ---- a stage with what its place holds, and effects inside it, is an effect
 
 module _ (rate : ℕ) (inner : Effects) (full : AllFull rate inner) where
   abbrev Made : Stage → Held → Type 0
   Made s own = (effect : Effect) × (spare : Spare) × (stagesIn effect ≡ s ∷ stagesOf inner) × Full rate effect spare
-      × (heldIn effect spare ≡ joined own (heldOf inner)) × (deepIn effect ≤ suc (deep inner))
+      × (heldIn effect spare ≡ joined own (heldOf inner))
 
   -- one with nothing inside
-  alone : (s : Stage) (own : Held) (effect : Effect) (spare : Spare) → length (stagesOf inner) ≡ 0 → stagesIn effect ≡ s ∷ [] → Full rate effect spare → heldIn effect spare ≡ own → deepIn effect ≡ 1 → Made s own
+  alone : (s : Stage) (own : Held) (effect : Effect) (spare : Spare) → length (stagesOf inner) ≡ 0 → stagesIn effect ≡ s ∷ [] → Full rate effect spare → heldIn effect spare ≡ own → Made s own
   unfolding stagesOf heldOf
-  alone s own effect spare z stages whole held levels =
+  alone s own effect spare z stages whole held =
       let e = no-effects inner z in (
         effect,
         spare,
         stages ∙ ap (λ es. s ∷ stagesOf es) e,
         whole,
         held ∙ sym (joined-none own) ∙ ap (λ es. joined own (heldOf es)) e,
-        omega (arith, levels),
       )
 
   module _ (own : Held) where
     made : (s : Stage) → length (stagesOf inner) ≡ ownedOf s → Sizes (floatsOf rate s) placePositions placeFloats own → OnLines (linesOf rate s) (own .positions) → Made s own
-    unfolding stagesIn heldIn Full deepIn floatsOf holdingOf lengthsOf elementFloats
-    made (VolumeControl volume) z s on = let r = plain-of own s in alone (VolumeControl volume) own (volumeControl volume) (r .0) z refl (r .2) (r .1) refl
-    made (PanningControl panning) z s on = let r = plain-of own s in alone (PanningControl panning) own (panningControl panning) (r .0) z refl (r .2) (r .1) refl
-    made (Distortion kind drive mix) z s on = let r = plain-of own s in alone (Distortion kind drive mix) own (distortion kind drive mix) (r .0) z refl (r .2) (r .1) refl
+    unfolding stagesIn heldIn Full floatsOf holdingOf lengthsOf elementFloats
+    made (VolumeControl volume) z s on = let r = plain-of own s in alone (VolumeControl volume) own (volumeControl volume) (r .0) z refl (r .2) (r .1)
+    made (PanningControl panning) z s on = let r = plain-of own s in alone (PanningControl panning) own (panningControl panning) (r .0) z refl (r .2) (r .1)
+    made (Distortion kind drive mix) z s on = let r = plain-of own s in alone (Distortion kind drive mix) own (distortion kind drive mix) (r .0) z refl (r .2) (r .1)
     made (Filter mode g resonance mix) z s on =
         let r = remembering-of own s in
-        alone (Filter mode g resonance mix) own (filter mode g resonance mix (r .0)) (r .1) z refl (r .3) (r .2) refl
+        alone (Filter mode g resonance mix) own (filter mode g resonance mix (r .0)) (r .1) z refl (r .3) (r .2)
     made (EqFilter kind g gain q) z s on =
         let r = remembering-of own s in
-        alone (EqFilter kind g gain q) own (eqFilter kind g gain q (r .0)) (r .1) z refl (r .3) (r .2) refl
+        alone (EqFilter kind g gain q) own (eqFilter kind g gain q (r .0)) (r .1) z refl (r .3) (r .2)
     made (Reverb feedback damping width mix) z s on =
         let r = reverb-of rate own (record { store = omega (arith, s .store); positions = s .positions; floats = s .floats }) on in
-        alone (Reverb feedback damping width mix) own (reverb feedback damping width mix (r .0) (r .1)) (r .2) z refl (r .4, r .5, r .6) (r .3) refl
+        alone (Reverb feedback damping width mix) own (reverb feedback damping width mix (r .0) (r .1)) (r .2) z refl (r .4, r .5, r .6) (r .3)
     made (Delay frames feedback mix owned) z s on =
         let r = delay-of frames own (record { store = omega (arith, s .store); positions = s .positions; floats = s .floats }) (on 0 (omega arith)) in (
           delay feedback mix (r .0) inner,
@@ -87,14 +76,13 @@ module _ (rate : ℕ) (inner : Effects) (full : AllFull rate inner) where
           λ t. Delay (r .2 t) feedback mix (z t) ∷ stagesOf inner,
           (r .4, full),
           ap (λ h. joined h (heldOf inner)) (r .3),
-          omega arith,
         )
 
 -- ---- the tree of the stages from place i up to e
 
--- effects with these stages, all whole, that hold h; they stand inside one another in at most so many levels
-abbrev pub Tree : Setup → ℕ → ℕ → Held → ℕ → Type 0
-Tree setup i e h levels = (effects : Effects) × (stagesOf effects ≡ listFrom (stageAt setup) i (e - i)) × AllFull (setup .rate) effects × (heldOf effects ≡ h) × (deep effects ≤ levels)
+-- effects with these stages, all whole, that hold h
+abbrev pub Tree : Setup → ℕ → ℕ → Held → Type 0
+Tree setup i e h = (effects : Effects) × (stagesOf effects ≡ listFrom (stageAt setup) i (e - i)) × AllFull (setup .rate) effects × (heldOf effects ≡ h)
 
 -- the places before n and those from n on
 list-parts : {A : Type 0} (f : ℕ → A) (i n e : ℕ) → i < n → n ≤ e → f i ∷ (listFrom f (suc i) (n - suc i) ++ listFrom f n (e - n)) ≡ listFrom f i (e - i)
@@ -116,24 +104,23 @@ by-less {A = A} i e before after = go (decLt i e)
     go (no h) = after (omega arith)
 
 module _ (setup : Setup) (sound : NoneFaulty setup) where
-  -- the places from i up to e own nothing past e, d stages before them own each of them, and h is what they hold
-  record Part (d i e : ℕ) (h : Held) : Type 0 where
+  -- the places from i up to e own nothing past e, and h is what they hold
+  record Part (i e : ℕ) (h : Held) : Type 0 where
     ordered : i ≤ e
     used : e ≤ usedOf setup
     ends : (j : ℕ) → i ≤ j → j < e → lastOf setup j < e
-    deeper : (j : ℕ) → i ≤ j → j < e → d ≤ depthOf setup j i
     sizes : Sizes (startOf setup e - startOf setup i) (placePositions * (e - i)) (placeFloats * (e - i)) h
     good : Good setup i e (h .positions)
 
-  no-tree : (d i e : ℕ) (h : Held) → Part d i e h → e ≤ i → Tree setup i e h (4 - d)
-  unfolding stagesOf AllFull heldOf deep listFrom
-  no-tree d i e h part g =
+  no-tree : (i e : ℕ) (h : Held) → Part i e h → e ≤ i → Tree setup i e h
+  unfolding stagesOf AllFull heldOf listFrom
+  no-tree i e h part g =
       let z : e - i ≡ 0 = omega arith in
       let same : e ≡ i = omega (arith, part .ordered) in
-      (none, rw z, tt, nothing-held h (resized (part .sizes) (omega (arith, ap (startOf setup) same)) (omega arith) (omega arith)), omega arith)
+      (none, rw z, tt, nothing-held h (resized (part .sizes) (omega (arith, ap (startOf setup) same)) (omega arith) (omega arith)))
 
   -- the stage at i with what it owns, and the stages after that
-  module _ (d i e : ℕ) (h : Held) (part : Part d i e h) (less : i < e) where
+  module _ (i e : ℕ) (h : Held) (part : Part i e h) (less : i < e) where
     abbrev stage : Stage
     stage = stageAt setup i
 
@@ -192,51 +179,47 @@ module _ (setup : Setup) (sound : NoneFaulty setup) where
     unfolding back
     rest-good = let one : suc i - i ≡ 1 = omega arith in rw one at (good-back setup i (suc i) e (h .positions) (omega arith) (part .good))
 
-    inside-part : Part (suc d) (suc i) after inside
+    inside-part : Part (suc i) after inside
     unfolding front
     inside-part = record {
       ordered = omega arith;
       used = omega (arith, last-in, part .used);
       ends = λ j from to. omega (arith, owned-whole setup sound j (omega (arith, last-in, part .used)) i from (omega arith));
-      deeper = λ j from to. omega (arith, part .deeper j (omega arith) (omega (arith, last-in)), depth-owned setup j i (omega arith));
       sizes = front-sizes _ _ _ _ _ _ rest rest-sizes;
       good = good-front setup (suc i) after e (rest .positions) last-in rest-good;
     }
 
-    beyond-part : Part d after e beyond
+    beyond-part : Part after e beyond
     unfolding back
     beyond-part = record {
       ordered = last-in;
       used = part .used;
       ends = λ j from to. part .ends j (omega arith) to;
-      deeper = λ j from to. omega (arith, part .deeper j (omega arith) to, depth-more setup j i after (omega arith));
       sizes = back-sizes _ _ _ _ _ _ rest rest-sizes;
       good = good-back setup (suc i) after e (rest .positions) (omega arith) rest-good;
     }
 
-    more-tree : Tree setup (suc i) after inside (4 - suc d) → Tree setup after e beyond (4 - d) → Tree setup i e h (4 - d)
-    unfolding stagesOf AllFull heldOf deep
+    more-tree : Tree setup (suc i) after inside → Tree setup after e beyond → Tree setup i e h
+    unfolding stagesOf AllFull heldOf
     more-tree t u =
-        let m = made (setup .rate) (t .0) (t .2) own stage (ap length (t .1) ∙ from-length (stageAt setup) (suc i) owned ∙ omega arith) own-sizes own-on in
-        let shallow : d ≤ 3 = omega (arith, part .deeper i (omega arith) less, not-deep setup sound i (omega (arith, part .used))) in (
+        let m = made (setup .rate) (t .0) (t .2) own stage (ap length (t .1) ∙ from-length (stageAt setup) (suc i) owned ∙ omega arith) own-sizes own-on in (
           next (m .0) (m .1) (u .0),
           (λ k. m .2 k ++ u .1 k) ∙ ap (λ xs. stage ∷ (xs ++ listFrom (stageAt setup) after (e - after))) (t .1) ∙ list-parts (stageAt setup) i after e (omega arith) last-in,
           (m .3, u .2),
           (λ k. joined (m .4 k) (u .3 k)) ∙ ap (λ g. joined (joined own g) beyond) (t .3) ∙ joined-assoc own inside beyond ∙ ap (joined own) (parted room (placePositions * owned) (placeFloats * owned) rest) ∙ parted size placePositions placeFloats h,
-          omega (arith, m .5, t .4, u .4),
         )
 
-  tree : (m d i e : ℕ) (h : Held) → e - i ≤ m → Part d i e h → Tree setup i e h (4 - d)
-  tree zero d i e h fuel part = no-tree d i e h part (omega arith)
-  tree (suc m) d i e h fuel part =
+  tree : (m i e : ℕ) (h : Held) → e - i ≤ m → Part i e h → Tree setup i e h
+  tree zero i e h fuel part = no-tree i e h part (omega arith)
+  tree (suc m) i e h fuel part =
       by-less i e
       (λ less.
-      let last = last-in d i e h part less in
-      more-tree d i e h part less
-      (tree m (suc d) (suc i) (suc (lastOf setup i)) _ (omega arith) (inside-part d i e h part less))
-      (tree m d (suc (lastOf setup i)) e _ (omega arith) (beyond-part d i e h part less)))
-      (no-tree d i e h part)
+      let last = last-in i e h part less in
+      more-tree i e h part less
+      (tree m (suc i) (suc (lastOf setup i)) _ (omega arith) (inside-part i e h part less))
+      (tree m (suc (lastOf setup i)) e _ (omega arith) (beyond-part i e h part less)))
+      (no-tree i e h part)
 
   pub tree-of : (i e : ℕ) (h : Held) → i ≤ e → e ≤ usedOf setup → ((j : ℕ) → i ≤ j → j < e → lastOf setup j < e)
-      → Sizes (startOf setup e - startOf setup i) (placePositions * (e - i)) (placeFloats * (e - i)) h → Good setup i e (h .positions) → Tree setup i e h 4
-  tree-of i e h ordered used ends sizes good = tree (e - i) 0 i e h (omega arith) (record { ordered = ordered; used = used; ends = ends; deeper = λ j from to. omega arith; sizes = sizes; good = good })
+      → Sizes (startOf setup e - startOf setup i) (placePositions * (e - i)) (placeFloats * (e - i)) h → Good setup i e (h .positions) → Tree setup i e h
+  tree-of i e h ordered used ends sizes good = tree (e - i) i e h (omega arith) (record { ordered = ordered; used = used; ends = ends; sizes = sizes; good = good })
