@@ -1,11 +1,9 @@
 -- The three demands, in the user's words, each closed by the name of its proof. The statements are definitions of crate `chain` (specs/Table.antt, specs/Demands.antt), about what its public functions answer and leave; those of square root and narrowing are of crate `theory_nearest` (specs/Ieee754.antt, specs/Nearest.antt), and those of amplitudes of crate `decibels` (specs/Power.antt). Assumes nothing.
 use Prim.Native.Nat.{ℕ}
-use mathlib.Core.Path.{_≡_}
 use mathlib.Core.Bool.{Bool}
-use lib.Dec.{T}
 use lib.IntN.{ℤ, pos, negsuc}
 use lib.Signed.{_≤ℤ_}
-use lib.Ieee.{Float, Format, binary32, binary64, fits}
+use lib.Ieee.{Float, Format, binary32, binary64}
 use Rattle.theory_nearest.specs.Nearest.{Nearest, TheNearest}
 use Rattle.theory_nearest.specs.Ieee754.{SquareRoot, Narrowing}
 use Rattle.rounding.specs.Root.{sqrtOf}
@@ -41,13 +39,6 @@ demand-2-root = Ieee754.square-root
 
 pub demand-2-narrowing : (f : Format) → Narrowing f (narrowOf f)
 demand-2-narrowing = Ieee754.narrowing
-
--- and no other function is IEEE 754's
-pub demand-2-one-root : (f : Format) (g h : Float → Float) → SquareRoot f g → SquareRoot f h → (x : Float) → T (fits f x) → g x ≡ h x
-demand-2-one-root = Ieee754.one-square-root
-
-pub demand-2-one-narrowing : (f : Format) (g h : Float → Float) → Narrowing f g → Narrowing f h → (x : Float) → g x ≡ h x
-demand-2-one-narrowing = Ieee754.one-narrowing
 
 -- "amplitudes against the nearest float to the power of ten"
 pub demand-2-amplitude : (z : ℤ) → negsuc 58 ≤ℤ z → z ≤ℤ pos 24 → NearestPower binary32 20 z (amplitudeOf z)

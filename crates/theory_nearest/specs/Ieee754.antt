@@ -1,8 +1,8 @@
 -- IEEE 754-2019's square root and its conversion to another format, case by case, ties going to the even value. The
 -- clauses named here are the standard's. Definitions only.
 -- A finite number is `fin s m e`: its magnitude m * 2 ^ e is the fraction (m * up e) / down e, and it is negative where
--- s is true. Each record below is met by one function alone: `one-square-root` and `one-narrowing` of
--- proofs/Ieee754.antt.
+-- s is true. `sqrtOf` and `narrowOf` of crate `rounding` are these two operations: `square-root` and `narrowing` of
+-- proofs/Ieee754.antt. No other function is: `one-square-root`, for the format's values, and `one-narrowing`.
 use Prim.Native.Nat.{ℕ, suc, _-_, _*_, _^_, _≤_, _<_}
 use mathlib.Core.Path.{_≡_}
 use mathlib.Core.Logic.{_⊎_}

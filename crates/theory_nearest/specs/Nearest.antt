@@ -58,7 +58,7 @@ pub record Nearer (f : Format) (j n d : ℕ) (y z : Float) : Type 0 where
       → (lastDigit f y ≡ 0) × (lastDigit f z ≡ 1)
 
 -- z, a value of the other sign, is farther from t than y is: t lies past their mean. Where z's magnitude is no smaller
--- than y's, the mean is not on t's side of zero, and there is nothing to ask.
+-- than y's, nothing is asked: their mean is zero or lies beyond it, and t does not.
 abbrev pub Farther : Format → ℕ → ℕ → ℕ → Float → Float → Type 0
 Farther f j n d y z = Smaller f z y → difference f y z ^ j * d < n * (2 * product y z) ^ j
 
