@@ -13,12 +13,13 @@ use lib.ListN.{getD}
 use lib.Ieee.{Float, nan, Format, ofBits}
 use borrow.Author.Tests.{lt-ltb}
 use Rattle.theory_nearest.specs.Nearest.{Nearest, Nearer, sum, product}
+use Rattle.theory_nearest.proofs.OtherSign.{of-one-sign}
 use Rattle.decibels.specs.Power.{NearestPower}
 use Rattle.decibels.proofs.Places.{entryOf}
 
 -- n and d may have a common factor
 common-factor : {f : Format} {s : Bool} {j n d : ℕ} {y : Float} (c : ℕ) → 0 < c → Nearest f s j (n * c) (d * c) y → Nearest f s j n d y
-common-factor {f} {s} {j} {n} {d} {y} c C h = record { held = h .held; sign = h .sign; nearest = λ z u v. at z (h .nearest z u v) }
+common-factor {f} {s} {j} {n} {d} {y} c C h = of-one-sign f s j n d y (λ z u v. at z (h .nearest z u v)) (h .held) (h .sign)
   where
     left : (z : Float) → n * c * (2 * product y z) ^ j ≡ n * (2 * product y z) ^ j * c
     left z = mul-right-comm n c ((2 * product y z) ^ j)

@@ -1,16 +1,15 @@
--- The three demands, in the user's words, each closed by the name of its proof. The statements are definitions of crate `chain` (specs/Table.antt, specs/Demands.antt), about what its public functions answer and leave; those of square root and narrowing are of crate `theory_nearest` (specs/Nearest.antt), and those of amplitudes of crate `decibels` (specs/Power.antt). Assumes nothing.
-use Prim.Native.Nat.{ℕ, _*_}
-use mathlib.Core.Path.{_≡_}
-use mathlib.Core.Bool.{Bool, false}
-use lib.Dec.{T}
+-- The three demands, in the user's words, each closed by the name of its proof. The statements are definitions of crate `chain` (specs/Table.antt, specs/Demands.antt), about what its public functions answer and leave; those of square root and narrowing are of crate `theory_nearest` (specs/Ieee754.antt, specs/Nearest.antt), and those of amplitudes of crate `decibels` (specs/Power.antt). Assumes nothing.
+use Prim.Native.Nat.{ℕ}
+use mathlib.Core.Bool.{Bool}
 use lib.IntN.{ℤ, pos, negsuc}
 use lib.Signed.{_≤ℤ_}
-use lib.Ieee.{Float, fin, Format, binary32, binary64, up, down, fits}
-use lib.Ieee.Positive.{num, den, positive}
-use Rattle.theory_nearest.specs.Nearest.{Nearest}
+use lib.Ieee.{Float, Format, binary32, binary64}
+use Rattle.theory_nearest.specs.Nearest.{Nearest, TheNearest}
+use Rattle.theory_nearest.specs.Ieee754.{SquareRoot, Narrowing}
 use Rattle.rounding.specs.Root.{sqrtOf}
 use Rattle.rounding.specs.Narrow.{narrowOf}
 use Rattle.theory_nearest.proofs.Evidence as Evidence
+use Rattle.theory_nearest.proofs.Ieee754 as Ieee754
 use Rattle.decibels.specs.Amplitude.{amplitudeOf, eqAmplitudeOf}
 use Rattle.decibels.specs.Power.{NearestPower}
 use Rattle.decibels.proofs.AmplitudeRules as Tables
@@ -35,14 +34,11 @@ pub demand-2 : StepByStep
 demand-2 = DemandsMet.step-by-step
 
 -- "Square root and narrowing are proved against IEEE 754"
-pub demand-2-root : (f : Format) (x : Float) → T (fits f x) → T (positive x) → Nearest f false 2 (num x) (den x) (sqrtOf f x)
-demand-2-root = Evidence.sqrt-nearest
+pub demand-2-root : (f : Format) → SquareRoot f (sqrtOf f)
+demand-2-root = Ieee754.square-root
 
-pub demand-2-narrowing : (f : Format) (s : Bool) (m : ℕ) (e : ℤ) → Nearest f s 1 (m * up e) (down e) (narrowOf f (fin s m e))
-demand-2-narrowing = Evidence.narrow-nearest
-
-pub demand-2-only : (f : Format) (s : Bool) (j n d : ℕ) (y z : Float) → Nearest f s j n d y → Nearest f s j n d z → y ≡ z
-demand-2-only = Evidence.only-nearest
+pub demand-2-narrowing : (f : Format) → Narrowing f (narrowOf f)
+demand-2-narrowing = Ieee754.narrowing
 
 -- "amplitudes against the nearest float to the power of ten"
 pub demand-2-amplitude : (z : ℤ) → negsuc 58 ≤ℤ z → z ≤ℤ pos 24 → NearestPower binary32 20 z (amplitudeOf z)
@@ -50,6 +46,10 @@ demand-2-amplitude = Tables.amplitude-rule
 
 pub demand-2-eq-amplitude : (z : ℤ) → negsuc 23 ≤ℤ z → z ≤ℤ pos 24 → NearestPower binary64 40 z (eqAmplitudeOf z)
 demand-2-eq-amplitude = Tables.eq-amplitude-rule
+
+-- there is one nearest value to a real number: so each amplitude is the only one
+pub demand-2-only : (f : Format) (s : Bool) (j n d : ℕ) (y : Float) → Nearest f s j n d y → TheNearest f s j n d y
+demand-2-only = Evidence.the-nearest
 
 -- 3. "A step runs one stage on its next frame, never ahead of the stage before it."
 pub demand-3-step : StepsKeepApart

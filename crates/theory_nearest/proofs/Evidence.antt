@@ -12,7 +12,7 @@ use lib.Ieee.Fits.{down-pos}
 use lib.Ieee.Positive.{num, den, positive}
 use Rattle.rounding.specs.Root.{sqrtOf}
 use Rattle.rounding.specs.Narrow.{narrowOf}
-use Rattle.theory_nearest.specs.Nearest.{Nearest, Nearer, Smaller, over, under, sum, product, lastDigit}
+use Rattle.theory_nearest.specs.Nearest.{Nearest, TheNearest, Nearer, Smaller, over, under, sum, product, lastDigit}
 use Rattle.theory_nearest.proofs.Powers.{split-order}
 use Rattle.theory_nearest.proofs.Magnitude.{UnitSize, unit-size, one-value, lt→smaller}
 use Rattle.theory_nearest.proofs.RoundKept.{round-nearest}
@@ -65,3 +65,6 @@ module _ (f : Format) (s : Bool) (j n d : ℕ) where
               | inr e ↦ one-value f s y z Z (a .held) (b .held) (a .sign) (b .sign) (u .mag ∙ ap (λ (x : ℕ). x * under y) e) (v .mag)
             ]
           ]
+
+  pub the-nearest : (y : Float) → Nearest f s j n d y → TheNearest f s j n d y
+  the-nearest y h = record { nearest = h; only = λ z g. only-nearest z y g h }

@@ -93,7 +93,7 @@ digit binary32 false k q = omega arith
 digit binary64 true k q = omega arith
 digit binary64 false k q = omega arith
 
-inf-digit : (f : Format) (s : Bool) → lastDigit f (inf s) ≡ 0
+pub inf-digit : (f : Format) (s : Bool) → lastDigit f (inf s) ≡ 0
 unfolding toBits
 inf-digit binary32 true = refl
 inf-digit binary32 false = refl

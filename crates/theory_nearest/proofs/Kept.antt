@@ -4,7 +4,7 @@ use mathlib.Core.Path.{_≡_, sym, ap, _∙_, subst}
 use mathlib.Core.Logic.{_⊎_, inl, inr}
 use mathlib.Core.Bool.{Bool, true, false, not, cond, Bool·beq}
 use Prim.Native.Nat.{ℕ, zero, suc, _+_, _-_, _*_, _%_, _^_, _≤_, _<_, zero-le}
-use native.Mathlib.Nat.{le-trans, le-of-eq, le-of-lt, le-antisymm, eq-or-lt-of-le, lt-of-lt-of-le, lt-of-le-of-lt, lt-irrefl, ne-of-lt, one-le-pow, add-left-cancel, mul-one, mul-comm, mul-assoc, mul-right-comm, mul-pos, mul-le-mul-right, add-mul, one-mul, zero-mul, zero-lt-suc}
+use native.Mathlib.Nat.{le-trans, le-of-eq, le-of-lt, le-antisymm, eq-or-lt-of-le, lt-of-lt-of-le, lt-of-le-of-lt, lt-irrefl, ne-of-lt, add-left-cancel, mul-one, mul-comm, mul-assoc, mul-le-mul-right, add-mul, one-mul, zero-mul, zero-lt-suc}
 use native.Mathlib.Omega.{arith}
 use lib.Dec.{T, ltb, ltb→lt, nltb→le}
 use lib.Pow.{pow-add, pow-pos, pow-mono, pow-lt}
@@ -12,11 +12,13 @@ use lib.Ieee.{Float, nan, inf, fin, Format, binary32, binary64, prec, emax, low,
 use lib.Ieee.Exact.{HasValue, odd-sign}
 use lib.Ieee.Bits.{ofBits-fits}
 use Rattle.rounding.specs.Inner.{pattern}
-use Rattle.theory_nearest.specs.Nearest.{Nearest, Nearer, under, signed, lastDigit, sum, product}
+use Rattle.theory_nearest.specs.Nearest.{Nearest, Nearer, under, signed, lastDigit}
 use Rattle.float.proofs.Fields.{prec-pos}
 use Rattle.rounding.proofs.Pack.{pack, pow-lt-back}
-use Rattle.theory_nearest.proofs.Powers.{mul-pow, split-order, powers-lt, powers-le, powers-same, scaled-le, scaled-eq}
-use Rattle.theory_nearest.proofs.Magnitude.{Mag, UnitSize, unit-size, endOf, inf-mag, under-pos, smaller→lt, same→same, sum-mag}
+use Rattle.theory_nearest.proofs.Powers.{mul-pow, split-order, powers-lt, powers-le, powers-same}
+use Rattle.theory_nearest.proofs.Magnitude.{Mag, UnitSize, unit-size, endOf, inf-mag, beq-refl}
+use Rattle.theory_nearest.proofs.Beside.{Beside, nearer}
+use Rattle.theory_nearest.proofs.OtherSign.{of-one-sign}
 use Rattle.theory_nearest.proofs.Grid.{next-up, next-down, not-past, power-even, even-digit, odd-digit}
 
 pub record Kept (f : Format) (j n d r k : ℕ) : Type 0 where
@@ -31,32 +33,6 @@ pub record Kept (f : Format) (j n d r k : ℕ) : Type 0 where
   pub up-even : n * (2 * 2 ^ low f) ^ j ≡ (suc (2 * r) * 2 ^ k) ^ j * d → r % 2 ≡ 0
   pub down-even : 0 < r → n * (2 * 2 ^ low f) ^ j ≡ ((2 * r - 1) * 2 ^ k) ^ j * d → r % 2 ≡ 0
 
--- ---- `Nearer`, said of the magnitudes in units
-record Beside (f : Format) (j n d : ℕ) (y z : Float) (Y Z : ℕ) : Type 0 where
-  below : Y < Z → n * (2 * 2 ^ low f) ^ j ≤ (Y + Z) ^ j * d
-  above : Z < Y → (Y + Z) ^ j * d ≤ n * (2 * 2 ^ low f) ^ j
-  tie : (Y ≡ Z → ⊥) → n * (2 * 2 ^ low f) ^ j ≡ (Y + Z) ^ j * d → (lastDigit f y ≡ 0) × (lastDigit f z ≡ 1)
-
-nearer : (f : Format) (j n d : ℕ) (y z : Float) (Y Z : ℕ) → Mag f y Y → Mag f z Z → Beside f j n d y z Y Z → Nearer f j n d y z
-nearer f j n d y z Y Z hy hz b =
-    let L = 2 ^ low f in
-    let P = product y z in
-    let S = sum f y z in
-    let P-pos : 0 < P = mul-pos (under-pos y) (under-pos z) in
-    let Lj : 0 < L ^ j = one-le-pow j L (pow-pos (low f)) in
-    let Pj : 0 < P ^ j = one-le-pow j P P-pos in
-    let e1 : n * (2 * P) ^ j * L ^ j ≡ n * (2 * L) ^ j * P ^ j = mul-assoc n ((2 * P) ^ j) (L ^ j) ∙ ap (λ (x : ℕ). n * x) (sym (mul-pow (2 * P) L j) ∙ ap (λ (x : ℕ). x ^ j) (mul-right-comm 2 P L) ∙ mul-pow (2 * L) P j) ∙ sym (mul-assoc n ((2 * L) ^ j) (P ^ j)) in
-    let e2 : S ^ j * d * L ^ j ≡ (Y + Z) ^ j * d * P ^ j = mul-right-comm (S ^ j) d (L ^ j) ∙ ap (λ (x : ℕ). x * d) (sym (mul-pow S L j) ∙ ap (λ (x : ℕ). x ^ j) (sum-mag f y z Y Z hy hz) ∙ mul-pow (Y + Z) P j) ∙ mul-right-comm ((Y + Z) ^ j) (P ^ j) d in
-    let A = n * (2 * P) ^ j in
-    let B = S ^ j * d in
-    let A' = n * (2 * L) ^ j in
-    let B' = (Y + Z) ^ j * d in
-    record {
-      below = λ l. scaled-le A B A' B' (L ^ j) (P ^ j) Lj Pj e1 e2 (b .below (smaller→lt f y z Y Z hy hz l));
-      above = λ l. scaled-le B A B' A' (L ^ j) (P ^ j) Lj Pj e2 e1 (b .above (smaller→lt f z y Z Y hz hy l));
-      tie = λ ne e. b .tie (λ v. ne (same→same f y z Y Z hy hz v)) (scaled-eq A B A' B' (L ^ j) (P ^ j) Lj Pj e1 e2 e);
-    }
-
 -- ---- a value that t is not below, and a smaller one: t is past their mean
 past-mean : (j n d L Y Z : ℕ) → 0 < j → 0 < d → Y ^ j * d ≤ n * L ^ j → Z < Y → (Y + Z) ^ j * d < n * (2 * L) ^ j
 past-mean j n d L Y Z J D h l =
@@ -66,7 +42,7 @@ past-mean j n d L Y Z J D h l =
     (le-trans (mul-le-mul-right (2 ^ j) h) (le-of-eq (mul-assoc n (L ^ j) (2 ^ j) ∙ ap (λ (x : ℕ). n * x) (mul-comm (L ^ j) (2 ^ j) ∙ sym (mul-pow 2 L j))))))
 
 -- ---- numbers of a format
-room : (f : Format) → 2 ^ prec f < endOf f
+pub room : (f : Format) → 2 ^ prec f < endOf f
 room binary32 = pow-lt {i = 24} {j = 277} (omega arith)
 room binary64 = pow-lt {i = 53} {j = 2098} (omega arith)
 
@@ -79,23 +55,19 @@ value→mag f s nan a h = absurd h
 value→mag f s (inf u) a h = absurd h
 value→mag f s (fin u m e) a h = h .1
 
-beq-refl : (s : Bool) → T (Bool·beq s s)
-beq-refl true = tt
-beq-refl false = tt
-
 value→signed : (s : Bool) (z : Float) (a c : ℕ) → HasValue z s a c → T (signed s z)
 value→signed s nan a c h = absurd h
 value→signed s (inf u) a c h = absurd h
 value→signed s (fin u m e) a c h = subst (λ (x : Bool). T (Bool·beq x s)) (sym (h .0)) (beq-refl s)
 
 -- ---- the value y of r * 2 ^ k units: it has that magnitude, or it is an infinity
-record Rounded (f : Format) (s : Bool) (r k : ℕ) (y : Float) : Type 0 where
-  held : T (fits f y)
-  sign : T (signed s y)
-  inner : r * 2 ^ k ≤ endOf f → Mag f y (r * 2 ^ k)
-  outer : endOf f < r * 2 ^ k → Mag f y (endOf f)
+pub record Rounded (f : Format) (s : Bool) (r k : ℕ) (y : Float) : Type 0 where
+  pub held : T (fits f y)
+  pub sign : T (signed s y)
+  pub inner : r * 2 ^ k ≤ endOf f → Mag f y (r * 2 ^ k)
+  pub outer : endOf f < r * 2 ^ k → Mag f y (endOf f)
 
-rounded : (f : Format) (s : Bool) (r k : ℕ) → r ≤ 2 ^ prec f → (k ≡ 0) ⊎ (hid f ≤ r) → Rounded f s r k (units f s r k)
+pub rounded : (f : Format) (s : Bool) (r k : ℕ) → r ≤ 2 ^ prec f → (k ≡ 0) ⊎ (hid f ≤ r) → Rounded f s r k (units f s r k)
 unfolding units
 rounded f s r k most least = go (ltb (r * 2 ^ k) (endOf f)) (ltb→lt (r * 2 ^ k) (endOf f)) (nltb→le (r * 2 ^ k) (endOf f)) (subst (λ (y : Float). T (fits f y)) (pack f s r k most least) (ofBits-fits f (cond s (top f) 0 + pattern f r k)))
   where
@@ -268,7 +240,7 @@ module _ (f : Format) (s : Bool) (j n d r k : ℕ) (J : 0 < j) (D : 0 < d) (h : 
   pub kept-nearest : Nearest f s j n d (units f s r k)
   kept-nearest =
       let v = rounded f s r k (h .most) (h .least) in
-      record { held = v .held; sign = v .sign; nearest = λ z tz pz. near v z pz (unit-size f s z tz pz) (ltb (endOf f) Y) (ltb→lt (endOf f) Y) (nltb→le (endOf f) Y) }
+      of-one-sign f s j n d y (λ z tz pz. near v z pz (unit-size f s z tz pz) (ltb (endOf f) Y) (ltb→lt (endOf f) Y) (nltb→le (endOf f) Y)) (v .held) (v .sign)
     where
       y : Float
       y = units f s r k

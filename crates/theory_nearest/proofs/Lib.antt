@@ -1,8 +1,14 @@
 pub mod Powers
 pub mod Magnitude
+pub mod Beside
+pub mod OtherSign
 pub mod Grid
 pub mod Kept
+pub mod Cases
 pub mod Whole
+pub mod Overflow
 pub mod RoundKept
+pub mod Subnormal
 pub mod RootKept
 pub mod Evidence
+pub mod Ieee754

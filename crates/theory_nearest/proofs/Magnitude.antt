@@ -28,11 +28,18 @@ under-pos (fin s m e) = down-pos e
 pub inf-mag : (f : Format) (s : Bool) → Mag f (inf s) (endOf f)
 inf-mag f s = mul-comm (2 ^ suc (emax f)) (2 ^ low f) ∙ sym (pow-add 2 (low f) (suc (emax f))) ∙ sym (mul-one (endOf f))
 
+pub zero-mag : (f : Format) (s : Bool) (e : ℤ) → Mag f (fin s 0 e) 0
+zero-mag f s e = ap (λ (x : ℕ). x * 2 ^ low f) (zero-mul (up e)) ∙ zero-mul (2 ^ low f) ∙ sym (zero-mul (down e))
+
 pub beq-same : (t s : Bool) → T (Bool·beq t s) → t ≡ s
 beq-same true true h = refl
 beq-same true false h = absurd h
 beq-same false true h = absurd h
 beq-same false false h = refl
+
+pub beq-refl : (s : Bool) → T (Bool·beq s s)
+beq-refl true = tt
+beq-refl false = tt
 
 -- ---- a magnitude is m * 2 ^ i units, with m of no more digits than the format keeps
 pub record UnitSize (f : Format) (z : Float) : Type 0 where
@@ -46,9 +53,9 @@ one-short : (f : Format) → 1 < 2 ^ prec f
 one-short binary32 = pow-lt {i = 0} {j = 24} (zero-lt-suc 23)
 one-short binary64 = pow-lt {i = 0} {j = 53} (zero-lt-suc 52)
 
-finite-size : (f : Format) (s : Bool) (m : ℕ) (e : ℤ) → T (fits f (fin s m e)) → (z : UnitSize f (fin s m e)) × (z .m * 2 ^ z .i < endOf f)
+pub finite-size : (f : Format) (s : Bool) (m : ℕ) (e : ℤ) → T (fits f (fin s m e)) → (z : UnitSize f (fin s m e)) × (z .m * 2 ^ z .i < endOf f)
 unfolding fits
-finite-size f s zero e t = (record { m = 0; i = 0; short = pow-pos (prec f); inside = le-of-lt (pow-pos (low f + suc (emax f))); mag = ap (λ (x : ℕ). x * 2 ^ low f) (zero-mul (up e)) ∙ zero-mul (2 ^ low f) ∙ sym (zero-mul (down e)) }, pow-pos (low f + suc (emax f)))
+finite-size f s zero e t = (record { m = 0; i = 0; short = pow-pos (prec f); inside = le-of-lt (pow-pos (low f + suc (emax f))); mag = zero-mag f s e }, pow-pos (low f + suc (emax f)))
 finite-size f s (suc m) e t =
     let A = eqb (suc m % 2) 1 in
     let B = ltb (suc m) (2 ^ prec f) in
@@ -96,6 +103,9 @@ module _ (f : Format) (y z : Float) (Y Z : ℕ) (hy : Mag f y Y) (hz : Mag f z Z
 
   pub same→same : Y ≡ Z → over f y * under z ≡ over f z * under y
   same→same e = eq-of-mul-eq-mul-right (2 ^ low f) (pow-pos (low f)) _ _ (cross-y ∙ ap (λ (x : ℕ). x * (under y * under z)) e ∙ sym cross-z)
+
+  pub same-size : over f y * under z ≡ over f z * under y → Y ≡ Z
+  same-size e = eq-of-mul-eq-mul-right (under y * under z) both-pos _ _ (sym cross-y ∙ ap (λ (x : ℕ). x * 2 ^ low f) e ∙ cross-z)
 
   pub sum-mag : (over f y * under z + over f z * under y) * 2 ^ low f ≡ (Y + Z) * (under y * under z)
   sum-mag = add-mul (over f y * under z) (over f z * under y) (2 ^ low f) ∙ ap (λ (x : ℕ). x + over f z * under y * 2 ^ low f) cross-y ∙ ap (λ (x : ℕ). Y * (under y * under z) + x) cross-z ∙ sym (add-mul Y Z (under y * under z))

@@ -2,13 +2,16 @@
 use mathlib.Core.Path.{_≡_, sym, ap, _∙_}
 use mathlib.Core.Logic.{_⊎_, inl, inr}
 use Prim.Native.Nat.{ℕ, zero, suc, _*_, _^_, _≤_, _<_}
-use native.Mathlib.Nat.{le-trans, le-of-eq, lt-irrefl, lt-of-lt-of-le, eq-or-lt-of-le, mul-mul-mul-comm, mul-le-mul-right, mul-lt-mul-of-pos-right, le-of-mul-le-mul-right, eq-of-mul-eq-mul-right, one-mul, pow-zero, pow-suc, pow-le-pow-left, pow-lt-pow-left}
+use native.Mathlib.Nat.{le-trans, le-of-eq, lt-irrefl, lt-of-lt-of-le, eq-or-lt-of-le, mul-comm, mul-assoc, mul-mul-mul-comm, mul-le-mul-right, mul-lt-mul-of-pos-right, le-of-mul-le-mul-right, eq-of-mul-eq-mul-right, one-mul, pow-zero, pow-suc, pow-le-pow-left, pow-lt-pow-left}
 use native.Mathlib.Omega.{arith}
 use mathlib.Core.Bool.{Bool, true, false, not}
 use lib.Dec.{T, ltb, ltb→lt, nltb→le}
 
 pub first-power : (a : ℕ) → a ^ 1 ≡ a
 first-power a = pow-suc a 0 ∙ ap (λ (x : ℕ). x * a) (pow-zero a) ∙ one-mul a
+
+pub twice-number : (a b : ℕ) → a * (2 * b) ^ 1 ≡ a * b * 2
+twice-number a b = ap (λ (x : ℕ). a * x) (first-power (2 * b) ∙ mul-comm 2 b) ∙ sym (mul-assoc a b 2)
 
 pub square : (a : ℕ) → a ^ 2 ≡ a * a
 square a = pow-suc a 1 ∙ ap (λ (x : ℕ). x * a) (first-power a)

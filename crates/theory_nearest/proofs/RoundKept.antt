@@ -15,7 +15,7 @@ use Rattle.theory_nearest.specs.Whole.{NearestWhole}
 use Rattle.float.proofs.Fields.{prec-pos}
 use Rattle.rounding.proofs.Rounding.{round-units}
 use Rattle.theory_nearest.proofs.Whole.{closest-whole}
-use Rattle.theory_nearest.proofs.Powers.{first-power}
+use Rattle.theory_nearest.proofs.Powers.{first-power, twice-number}
 use Rattle.theory_nearest.proofs.Kept.{Kept, kept-nearest}
 
 -- ---- r + 1/2 and r - 1/2, in halves of u
@@ -58,7 +58,7 @@ round-kept f num den D k r ek er =
     under (suc r) h = omega (arith, half-less (suc r) (den * 2 ^ k) (zero-lt-suc r))
 
     t-is : num * (2 * 2 ^ low f) ^ 1 ≡ num * 2 ^ low f * 2
-    t-is = ap (λ (x : ℕ). num * x) (first-power (2 * 2 ^ low f) ∙ mul-comm 2 (2 ^ low f)) ∙ sym (mul-assoc num (2 ^ low f) 2)
+    t-is = twice-number num (2 ^ low f)
 
     mean-is : (x : ℕ) → (x * 2 ^ k) ^ 1 * den ≡ x * (den * 2 ^ k)
     mean-is x = ap (λ (v : ℕ). v * den) (first-power (x * 2 ^ k)) ∙ mul-assoc x (2 ^ k) den ∙ ap (λ (v : ℕ). x * v) (mul-comm (2 ^ k) den)

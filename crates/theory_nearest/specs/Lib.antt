@@ -1,2 +1,3 @@
 pub mod Nearest
 pub mod Whole
+pub mod Ieee754

@@ -3,9 +3,9 @@
 -- The real number t is not negative, and is given by one of its powers: t ^ j = n / d. So j is 1 for a fraction, 2 for
 -- a square root, and 20 or 40 for an amplitude. Then t lies below, at or above a fraction a / b exactly where n * b ^ j
 -- is below, at or above a ^ j * d.
-use Prim.Native.Nat.{ℕ, suc, _+_, _*_, _%_, _^_, _≤_, _<_}
+use Prim.Native.Nat.{ℕ, suc, _+_, _-_, _*_, _%_, _^_, _≤_, _<_}
 use mathlib.Core.Path.{_≡_}
-use mathlib.Core.Bool.{Bool, false, Bool·beq}
+use mathlib.Core.Bool.{Bool, false, not, Bool·beq}
 use lib.Dec.{T}
 use lib.Ieee.{Float, nan, inf, fin, Format, emax, up, down, fits, toBits}
 
@@ -31,7 +31,12 @@ Smaller f y z = over f y * under z < over f z * under y
 abbrev pub sum : Format → Float → Float → ℕ
 sum f y z = over f y * under z + over f z * under y
 
--- half of the mean's denominator
+-- the mean of y's magnitude and z's, where z has the other sign and the smaller magnitude, is the fraction
+-- difference / (2 * product), on y's side of zero; this is its numerator
+abbrev pub difference : Format → Float → Float → ℕ
+difference f y z = over f y * under z - over f z * under y
+
+-- half of either mean's denominator
 abbrev pub product : Float → Float → ℕ
 product y z = under y * under z
 
@@ -52,8 +57,19 @@ pub record Nearer (f : Format) (j n d : ℕ) (y z : Float) : Type 0 where
   pub tie : (over f y * under z ≡ over f z * under y → ⊥) → n * (2 * product y z) ^ j ≡ sum f y z ^ j * d
       → (lastDigit f y ≡ 0) × (lastDigit f z ≡ 1)
 
--- y is a value of the format with the sign s, and of all these values its magnitude is the nearest to t
+-- z, a value of the other sign, is farther from t than y is: t lies past their mean. Where z's magnitude is no smaller
+-- than y's, nothing is asked: their mean is zero or lies beyond it, and t does not.
+abbrev pub Farther : Format → ℕ → ℕ → ℕ → Float → Float → Type 0
+Farther f j n d y z = Smaller f z y → difference f y z ^ j * d < n * (2 * product y z) ^ j
+
+-- y has the sign s, and of all values of the format it is the nearest to the number of that sign whose magnitude is t
 pub record Nearest (f : Format) (s : Bool) (j n d : ℕ) (y : Float) : Type 0 where
   pub held : T (fits f y)
   pub sign : T (signed s y)
   pub nearest : (z : Float) → T (fits f z) → T (signed s z) → Nearer f j n d y z
+  pub farther : (z : Float) → T (fits f z) → T (signed (not s) z) → Farther f j n d y z
+
+-- y is the nearest value, and no other value is
+pub record TheNearest (f : Format) (s : Bool) (j n d : ℕ) (y : Float) : Type 0 where
+  pub nearest : Nearest f s j n d y
+  pub only : (z : Float) → Nearest f s j n d z → z ≡ y
