@@ -1,7 +1,7 @@
 -- A line in three parts, as one list with a position on it: what is read at the position, what is stored there, and where the position goes. Also of a line of frames in a list of floats. Assumes nothing.
 use mathlib.Core.Path.{_≡_, refl, sym, ap, _∙_}
 use mathlib.Core.List.{List, [], _∷_, _++_, append-assoc}
-use Prim.Native.Nat.{_+_, _*_}
+use Prim.Native.Nat.{_+_, _*_, _≤_, _<_}
 use native.Mathlib.Omega.{arith}
 use lib.ListN.{length, getD, set, length-append, length-set}
 use lib.Seq.{getD-append-seam, set-append-seam, getD-at, set-at}
@@ -22,9 +22,13 @@ module _ {A : Type 0} where
 
   onward-position : (before : List A) (here y : A) (after : List A) → nextPosition (length before) (length (before ++ (here ∷ after))) ≡ position (onward before y after)
   unfolding onward nextPosition
-  onward-position before here y (x ∷ after) = rw (lt-ltb (length before + 1) (length (before ++ (here ∷ x ∷ after))) (omega (arith, length-append before (here ∷ x ∷ after)))) (sym (length-append before (y ∷ [])))
+  onward-position before here y (x ∷ after) =
+      let more : length before + 1 < length (before ++ (here ∷ x ∷ after)) = omega (arith, length-append before (here ∷ x ∷ after)) in
+      simp lt-ltb (sym (length-append before (y ∷ [])))
   onward-position [] here y [] = refl
-  onward-position (x ∷ before) here y [] = rw (le-ltb (length (x ∷ before) + 1) (length ((x ∷ before) ++ (here ∷ []))) (omega (arith, length-append (x ∷ before) (here ∷ []))))
+  onward-position (x ∷ before) here y [] =
+      let last : length ((x ∷ before) ++ (here ∷ [])) ≤ length (x ∷ before) + 1 = omega (arith, length-append (x ∷ before) (here ∷ [])) in
+      simp le-ltb
 
   pub here-read : (l : Line A) (d : A) → getD (buffer l) (position l) d ≡ l .here
   here-read l d = getD-append-seam (l .before) (l .here) (l .after) d

@@ -2,7 +2,7 @@
 use mathlib.Core.Path.{_≡_, refl, ap, _∙_}
 use mathlib.Core.Bool.{true}
 use mathlib.Core.List.{List, [], _∷_, map}
-use Prim.Native.Nat.{ℕ, _*_}
+use Prim.Native.Nat.{ℕ, _*_, _≤_}
 use native.Mathlib.Omega.{arith}
 use lib.Ieee.{Float, nan, binary32, add, mul}
 use lib.ListN.{length, take, drop, length-map, length-take, length-drop}
@@ -202,7 +202,10 @@ module _ (rate : ℕ) (feedback damping width mix : Float) (left right : Side) (
     reverb-fits =
         let h = heldIn effect spare in
         let s = reverb-sizes in
-        rw (le-leb (reverbFloats rate) (length (h .store)) (omega arith), le-leb lineCount (length (h .positions)) (omega arith), le-leb combCount (length (h .floats)) (omega arith))
+        let store : reverbFloats rate ≤ length (h .store) = omega arith in
+        let positions : lineCount ≤ length (h .positions) = omega arith in
+        let floats : combCount ≤ length (h .floats) = omega arith in
+        simp le-leb
 
     -- one frame through it is what kira's reverb makes of it
     pub reverb-whole : (x : Frame) → reverbOf rate feedback damping width mix (ran x (heldIn effect spare)) ≡ ran (process effect x .0) (heldIn (process effect x .1) spare)
