@@ -39,6 +39,7 @@ module _ (setup : Setup) (sound : NoneFaulty setup) where
 
   mutual
     unfolding stagesIn deepIn holdingOf
+
     deep-in : (effect : Effect) (d i : ℕ) → Stand setup (stagesIn effect) i → i + length (stagesIn effect) ≤ usedOf setup → Owners d i (length (stagesIn effect)) → deepIn effect ≤ 4 - d
     deep-in (volumeControl volume) d i h g o = one-level d i 1 (omega arith) g o
     deep-in (panningControl panning) d i h g o = one-level d i 1 (omega arith) g o

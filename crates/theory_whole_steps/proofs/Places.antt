@@ -107,9 +107,9 @@ module _ (setup : Setup) (effects : Effects) where
         go (next effect spare after) p =
             let stages : stagesOf effects ≡ stagesOf (b .before) ++ (stagesIn effect ++ stagesOf after) = ap stagesOf p ∙ stages-followed (b .before) (next effect spare after) in
             let size : length (stagesOf effects) ≡ length (stagesOf (b .before)) + (length (stagesIn effect) + length (stagesOf after)) =
-                ap length stages ∙ length-append (stagesOf (b .before)) (stagesIn effect ++ stagesOf after) ∙ ap (λ n. length (stagesOf (b .before)) + n) (length-append (stagesIn effect) (stagesOf after)) in
+            ap length stages ∙ length-append (stagesOf (b .before)) (stagesIn effect ++ stagesOf after) ∙ ap (λ n. length (stagesOf (b .before)) + n) (length-append (stagesIn effect) (stagesOf after)) in
             let there : Stand setup (stagesIn effect ++ stagesOf after) (topAt setup k) =
-                subst (Stand setup (stagesIn effect ++ stagesOf after)) (omega (arith, b .place)) (stand-parts setup (stagesOf (b .before)) (stagesIn effect ++ stagesOf after) 0 (rw stages at h) .1) in
+            subst (Stand setup (stagesIn effect ++ stagesOf after)) (omega (arith, b .place)) (stand-parts setup (stagesOf (b .before)) (stagesIn effect ++ stagesOf after) 0 (rw stages at h) .1) in
             let own = stand-parts setup (stagesIn effect) (stagesOf after) (topAt setup k) there .0 in
             record {
               before = b .before;
