@@ -1,4 +1,4 @@
--- The three demands, in the user's words, each closed by the name of its proof. The statements are definitions of crate `chain` (specs/Table.antt, specs/Demands.antt), about what its public functions answer and leave; those of square root and narrowing are of crate `theory_nearest` (specs/Nearest.antt), and those of amplitudes of crate `decibels` (specs/Power.antt). Assumes nothing.
+-- The three demands, in the user's words, each closed by the name of its proof. The statements are definitions of crate `chain` (specs/Table.antt, specs/Demands.antt, specs/Past.antt), about what its public functions answer and leave; those of square root and narrowing are of crate `theory_nearest` (specs/Nearest.antt), and those of amplitudes of crate `decibels` (specs/Power.antt). Assumes nothing.
 use Prim.Native.Nat.{ℕ, _*_}
 use mathlib.Core.Path.{_≡_}
 use mathlib.Core.Bool.{Bool, false}
@@ -15,10 +15,12 @@ use Rattle.decibels.specs.Amplitude.{amplitudeOf, eqAmplitudeOf}
 use Rattle.decibels.specs.Power.{NearestPower}
 use Rattle.decibels.proofs.AmplitudeRules as Tables
 use Rattle.chain.specs.Table.{AnswersTabled, RenderUnchanged, StartsTabled}
-use Rattle.chain.specs.Demands.{StepByStep, StepsKeepApart, StepsStandAlone, AnyOrder, WholeFrames, CutAnywhere, RenderCutAnywhere, RenderIsRun}
+use Rattle.chain.specs.Demands.{StepByStep, EntriesDecide, StepsKeepApart, StepsStandAlone, AnyOrder, WholeFrames, CutAnywhere, RenderCutAnywhere, RenderIsRun}
+use Rattle.chain.specs.Past.{PastStays}
 use Rattle.chain.proofs.TableMet as TableMet
 use Rattle.chain.proofs.DemandsMet as DemandsMet
 use Rattle.chain.proofs.CutMet as CutMet
+use Rattle.chain.proofs.PastMet as PastMet
 
 -- 1. "Any rate, settings, samples, memories, line store, progress and step order may be passed in. What meets none of document 01's eleven refusals is rendered. A refusal comes exactly under its condition, gives its number and place, and changes no sample, line, memory or progress."
 pub demand-1 : AnswersTabled
@@ -27,6 +29,11 @@ demand-1 = TableMet.answers-tabled
 pub demand-1-render : RenderUnchanged
 demand-1-render = TableMet.render-unchanged
 
+-- document 01: "Progress is counted entry by entry for check 11": an order is accepted exactly where an empty one is and each entry may be run, once the steps before it are taken
+pub demand-1-entries : EntriesDecide
+demand-1-entries = DemandsMet.entries-decide
+
+-- document 01: "A fresh start makes checks 1 to 5, then clears the needed floats; it takes no memories and gives them at zero, refused or not."
 pub demand-1-start : StartsTabled
 demand-1-start = TableMet.starts-tabled
 
@@ -55,7 +62,11 @@ demand-2-eq-amplitude = Tables.eq-amplitude-rule
 pub demand-3-step : StepsKeepApart
 demand-3-step = DemandsMet.steps-keep-apart
 
--- document 01: "floats past the last line never change" (above), "and a step's answer doesn't depend on them or on lines of stages it doesn't run"
+-- document 01: "Floats past the last line never change": whatever order is run, rendered, started or refused
+pub demand-3-past : PastStays
+demand-3-past = PastMet.past-stays
+
+-- "and a step's answer doesn't depend on them or on lines of stages it doesn't run"
 pub demand-3-alone : StepsStandAlone
 demand-3-alone = DemandsMet.steps-stand-alone
 
