@@ -23,7 +23,7 @@ use Rattle.top_stages.proofs.TopStages.{top-le, top-next}
 use Rattle.theory_refusals.proofs.Clears.{accepted-of-clear}
 use Rattle.chain.specs.Chain.{stretch, Room, chainOf, framesOf, Ready, May, stepped}
 use Rattle.chain.specs.Run.{leavesOf, toEnd}
-use Rattle.chain.specs.Demands.{Arrays, Outside, Taken, AllAt, Finishing, StepByStep, heldBy, nextFrame, OneStep, StepsKeepApart, Alike, StepsStandAlone, AnyOrder, WholeFrames, RenderIsRun}
+use Rattle.chain.specs.Demands.{Arrays, Outside, Taken, AllAt, Finishing, StepByStep, EntriesDecide, heldBy, nextFrame, OneStep, StepsKeepApart, Alike, StepsStandAlone, AnyOrder, WholeFrames, RenderIsRun}
 use Rattle.chain.proofs.Stretches.{stretch-same, outside-store, outside-positions, outside-floats}
 use Rattle.chain.proofs.ChainLocal.{Sized, chain-local, chain-steady}
 use Rattle.chain.proofs.Accepts.{ClearOn, ready, orderly, clear-with, step-first, clear-stays}
@@ -45,6 +45,14 @@ step-by-step setup s k order a t =
       same = leaves-is setup s (k ∷ order) t ∙ sym (step-first setup s k order a z order) ∙ sym (leaves-is setup (stepped setup k s) order others) ∙ ap (λ (w : State Float Held). leavesOf setup w order) (sym one);
       step-is = one;
     }
+
+-- an order and its entries
+pub entries-decide : EntriesDecide
+entries-decide setup s order = record {
+  empty = λ t. taken setup s [] (clear-with setup s order [] (clear setup s order t) tt);
+  orderly = λ t. orderly setup s order (clear setup s order t);
+  taken = λ t o. taken setup s order (clear-with setup s [] order (clear setup s [] t) o);
+}
 
 -- ---- demand 3: a step
 module _ (setup : Setup) (s : State Float Held) (k : ℕ) (a : Arrays s) (t : Taken setup s (k ∷ [])) where
@@ -116,36 +124,24 @@ any-order setup s xs ys a t u n =
     ∙ sym (leaves-is setup s ys u)
 
 -- ---- whole frame after whole frame
-module _ (setup : Setup) where
-  pub whole : (s : State Float Held) (order : List ℕ) → Finishing setup s order → Whole (chainOf setup) (framesOf (s .samples)) s order
-  whole s order f = record { fresh = f .fresh; finishes = record { accepted = f .orderly; done = f .done } }
-
-  pub finishing-taken : (s : State Float Held) (order : List ℕ) → ClearOn setup s [] → Finishing setup s order → Taken setup s order
-  finishing-taken s order z f = taken setup s order (clear-with setup s [] order z (f .orderly))
-
-  -- from nothing, `toEnd` is such an order
-  pub finishing-is : (s : State Float Held) → Arrays s → ClearOn setup s [] → AllAt setup 0 s → Finishing setup s (toEnd setup s)
-  finishing-is s a z f =
-      let o = finishing-finishes (chainOf setup) (Room setup) (Sized setup) (chain-local setup) (framesOf (s .samples)) s (ready setup s [] a z) in
-      record { fresh = f; orderly = o .accepted; done = o .done }
+pub whole : (setup : Setup) (s : State Float Held) (order : List ℕ) → Finishing setup s order → Whole (chainOf setup) (framesOf (s .samples)) s order
+whole setup s order f =
+    record { fresh = f .fresh; finishes = record { accepted = orderly setup s order (clear setup s order (f .taken)); done = rw (leaves-is setup s order (f .taken)) at (f .done) } }
 
 pub whole-frames : WholeFrames
-whole-frames setup s order a t f =
+whole-frames setup s order a f =
     let C = chainOf setup in
     let F : ℕ = framesOf (s .samples) in
-    let z = clear setup s [] t in
-    let v = ready setup s [] a z in
-    let u = finishing-taken setup s order z f in
+    let z = clear setup s order (f .taken) in
+    let v = ready setup s order a z in
     let r = frames-whole C (Room setup) (Sized setup) (chain-local setup) F s v (f .fresh) in
-    let row = taken setup s (frames (topsOf setup) F) (clear-with setup s [] (frames (topsOf setup) F) z (r .finishes .accepted)) in
-    let leaves = leaves-is setup s order u in (
-      u,
-      record {
-        taken = row;
-        same = leaves ∙ frame-by-frame C (Room setup) (Sized setup) (chain-local setup) F order s v (whole setup s order f) ∙ sym (leaves-is setup s (frames (topsOf setup) F) row);
-        renders = ap (from 0) leaves ∙ order-renders C (Room setup) (Sized setup) (chain-local setup) F order s v (whole setup s order f);
-      },
-    )
+    let row = taken setup s (frames (topsOf setup) F) (clear-with setup s order (frames (topsOf setup) F) z (r .finishes .accepted)) in
+    let leaves = leaves-is setup s order (f .taken) in
+    record {
+      taken = row;
+      same = leaves ∙ frame-by-frame C (Room setup) (Sized setup) (chain-local setup) F order s v (whole setup s order f) ∙ sym (leaves-is setup s (frames (topsOf setup) F) row);
+      renders = ap (from 0) leaves ∙ order-renders C (Room setup) (Sized setup) (chain-local setup) F order s v (whole setup s order f);
+    }
 
 -- ---- and `render`
 pub render-is-run : RenderIsRun
@@ -157,11 +153,17 @@ render-is-run setup s a t =
     let v = ready setup s [] a z in
     let f = finishing-finishes C (Room setup) (Sized setup) (chain-local setup) F s v in
     let r = rendered-is setup s t in
+    let u = taken setup s order (clear-with setup s [] order z (f .accepted)) in
     record {
-      some = taken setup s order (clear-with setup s [] order z (f .accepted));
+      some = u;
+      same = leaves-is setup s order u ∙ sym r;
       done = subst (λ (w : State Float Held). AllAt setup F w) (sym r) (f .done);
-      any = λ xs u d.
-          let leaves = leaves-is setup s xs u in
-          let g : Finishes C F s xs = record { accepted = orderly setup s xs (clear setup s xs u); done = subst (λ (w : State Float Held). AllAt setup F w) leaves d } in
+      any = λ xs q d.
+          let leaves = leaves-is setup s xs q in
+          let g : Finishes C F s xs = record { accepted = orderly setup s xs (clear setup s xs q); done = subst (λ (w : State Float Held). AllAt setup F w) leaves d } in
           leaves ∙ leaves-finishing C (Room setup) (Sized setup) (chain-local setup) F xs s v g ∙ sym r;
     }
+
+-- from nothing, `toEnd` finishes
+pub to-end-finishing : (setup : Setup) (s : State Float Held) → Arrays s → Taken setup s [] → AllAt setup 0 s → Finishing setup s (toEnd setup s)
+to-end-finishing setup s a t f = let r = render-is-run setup s a t in record { taken = r .some; fresh = f; done = rw (r .same) (r .done) }

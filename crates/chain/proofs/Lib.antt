@@ -9,3 +9,4 @@ pub mod OneStep
 pub mod Turns
 pub mod OneOutcome
 pub mod TableMet
+pub mod PastMet

@@ -1,8 +1,14 @@
 -- Demand 1 is met, as specs/Table.antt states it. Assumes nothing.
+use mathlib.Core.Path.{refl, _∙_}
 use native.Mathlib.Omega.{arith}
+use lib.Ieee.{round, ofBits}
 use lib.ListN.{length}
+use Rattle.float.specs.Literal.{literal}
+use Rattle.memories.specs.Memories.{zeroMemories}
 use Rattle.theory_refusals.proofs.TableHolds.{start-by-the-table, by-the-table}
 use Rattle.theory_refusals.proofs.Clears.{start-few}
+use Rattle.line_layout.specs.Layout.{neededOf}
+use Rattle.fresh_start.proofs.Cleared.{cleared-zero}
 use Rattle.fresh_start.proofs.Starting.{started, not-started}
 use Rattle.chain.specs.Table.{AnswersTabled, RenderUnchanged, StartsTabled}
 use Rattle.chain.proofs.Running.{clear, leaves-is, leaves-not, rendered-not}
@@ -14,4 +20,5 @@ pub render-unchanged : RenderUnchanged
 render-unchanged = rendered-not
 
 pub starts-tabled : StartsTabled
-starts-tabled setup store = record { answer = start-by-the-table setup (length store); unchanged = not-started setup store; cleared = started setup store; all-used = λ t. omega (arith, start-few setup (length store) t) }
+unfolding zeroMemories literal round ofBits
+starts-tabled setup store = record { answer = start-by-the-table setup (length store); unchanged = not-started setup store; cleared = λ t. started setup store t ∙ cleared-zero (neededOf setup) store; all-used = λ t. omega (arith, start-few setup (length store) t); positions = refl; floats = refl }

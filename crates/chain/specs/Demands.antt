@@ -18,7 +18,7 @@ use Rattle.memories.specs.Sizes.{places, placePositions, placeFloats, allPositi
 use Rattle.line_layout.specs.Layout.{startOf}
 use Rattle.answer.specs.Answer.{acceptedOf}
 use Rattle.top_stages.specs.Tops.{topAt, topsOf}
-use Rattle.chain.specs.Chain.{stretch, chainOf, framesOf, stepped, Orderly, ordered}
+use Rattle.chain.specs.Chain.{stretch, chainOf, framesOf, stepped, Orderly}
 use Rattle.chain.specs.Run.{answerOn, leavesOf, toEnd, renderedOf}
 
 -- the memories and the progress have the lengths that the types of their arrays say
@@ -42,12 +42,11 @@ module _ (setup : Setup) where
   abbrev pub AllAt : ℕ → State Float Held → Type 0
   AllAt frame s = (k : ℕ) → k < topsOf setup → at s k ≡ frame
 
-  -- the order "brings every stage from nothing to the last frame", and refusal 11 does not apply to it; the other
-  -- refusals are not looked at here
+  -- the order is accepted, and "brings every stage from nothing to the last frame": by what `run` answers and leaves
   pub record Finishing (s : State Float Held) (order : List ℕ) : Type 0 where
+    pub taken : Taken s order
     pub fresh : AllAt 0 s
-    pub orderly : Orderly setup s order
-    pub done : AllAt (framesOf (s .samples)) (ordered setup s order)
+    pub done : AllAt (framesOf (s .samples)) (leavesOf setup s order)
 
   -- ---- Demand 2: "each accepted step gives the Rust's bits". Here: an accepted step is the one that the definitions
   -- say. That these give the Rust's bits is not proved but compared, by the programs of compare/
@@ -118,6 +117,17 @@ abbrev pub StepByStep : Type 0
 StepByStep = (setup : Setup) (s : State Float Held) (k : ℕ) (order : List ℕ) → Arrays s → Taken setup s (k ∷ order)
     → SingleSteps setup s k order
 
+-- an order is accepted exactly where an empty one is and each of its entries may be run, once the steps of the entries
+-- before it are taken
+pub record ByEntries (setup : Setup) (s : State Float Held) (order : List ℕ) : Type 0 where
+  pub empty : Taken setup s order → Taken setup s []
+  pub orderly : Taken setup s order → Orderly setup s order
+  pub taken : Taken setup s [] → Orderly setup s order → Taken setup s order
+
+-- "progress is counted entry by entry for check 11", and it is the progress that the steps themselves leave
+abbrev pub EntriesDecide : Type 0
+EntriesDecide = (setup : Setup) (s : State Float Held) (order : List ℕ) → ByEntries setup s order
+
 -- "a step runs one stage on its next frame, never ahead of the stage before it": this is so of every accepted step
 abbrev pub StepsKeepApart : Type 0
 StepsKeepApart = (setup : Setup) (s : State Float Held) (k : ℕ) → Arrays s → Taken setup s (k ∷ [])
@@ -144,31 +154,35 @@ pub record FrameAfterFrame (setup : Setup) (s : State Float Held) (order : List 
   pub renders : from 0 (leavesOf setup s order) ≡ frameByFrame (chainOf setup) (framesOf (s .samples)) (from 0 s)
 
 -- "an order that brings every stage from nothing to the last frame leaves what demand 2's rendering, whole frame after
--- whole frame, leaves"; where an empty order is accepted, so is such an order
+-- whole frame, leaves"
 abbrev pub WholeFrames : Type 0
-WholeFrames = (setup : Setup) (s : State Float Held) (order : List ℕ) → Arrays s → Taken setup s []
-    → Finishing setup s order → Taken setup s order × FrameAfterFrame setup s order
+WholeFrames = (setup : Setup) (s : State Float Held) (order : List ℕ) → Arrays s → Finishing setup s order
+    → FrameAfterFrame setup s order
 
--- the block with its order and the two parts with theirs are all accepted, and the parts, one after the other, leave
--- the output, lines and memories that the whole leaves
-pub record CutAt (setup : Setup) (s s₁ s₂ : State Float Held) (whole first second : List ℕ) : Type 0 where
-  pub taken : Taken setup s whole
-  pub first-taken : Taken setup s₁ first
-  pub second-taken : Taken setup s₂ second
-  pub same : Cut (leavesOf setup s whole) (leavesOf setup s₁ first) (leavesOf setup s₂ second)
+-- the second part of a cut block, with samples ys and progress p: it begins with the lines and memories that the order
+-- leaves of the first part, s
+abbrev pub secondPart : Setup → State Float Held → List ℕ → List Float → List ℕ → State Float Held
+secondPart setup s order ys p = begin ys (leavesOf setup s order .held) p
+
+-- r, which a block leaves, is left by its two parts too: the first, s, and the second, with samples ys and progress p
+pub record CutAt (setup : Setup) (r s : State Float Held) (ys : List Float) (p : List ℕ) : Type 0 where
+  -- the parts are accepted with an empty order; so they are with every order whose entries may be run
+  -- (`EntriesDecide`), and one that finishes them is among these (`RenderIsRun`)
+  pub first-taken : Taken setup s []
+  pub second-taken : (first : List ℕ) → Finishing setup s first → Taken setup (secondPart setup s first ys p) []
+  -- whatever orders finish them, the parts, one after the other, leave the output, lines and memories of r
+  pub same : (first second : List ℕ) → Finishing setup s first → Finishing setup (secondPart setup s first ys p) second
+      → Cut r (leavesOf setup s first) (leavesOf setup (secondPart setup s first ys p) second)
 
 -- "cutting an accepted, unstarted block at any frame and running each part to its end leaves the output, lines and
--- memories that running it whole to its end leaves"; that the parts are accepted is concluded, not assumed
+-- memories that running it whole to its end leaves"; the cut is after n frames, and both parts start "at progress
+-- zero". That the parts are accepted is concluded, not assumed
 abbrev pub CutAnywhere : Type 0
-CutAnywhere = (setup : Setup) (n : ℕ) (xs ys : List Float) (h : Held) (p p₁ p₂ whole first second : List ℕ)
-    → length xs ≡ n * 2
+CutAnywhere = (setup : Setup) (n : ℕ) (xs ys : List Float) (h : Held) (p p₁ p₂ whole : List ℕ) → length xs ≡ n * 2
     → Arrays (begin (xs ++ ys) h p) → length p₁ ≡ places → length p₂ ≡ places
-    → Taken setup (begin (xs ++ ys) h p) []
+    → AllAt setup 0 (begin xs h p₁) → AllAt setup 0 (begin ys h p₂)
     → Finishing setup (begin (xs ++ ys) h p) whole
-    → Finishing setup (begin xs h p₁) first
-    → Finishing setup (begin ys (ordered setup (begin xs h p₁) first .held) p₂) second
-    → CutAt setup (begin (xs ++ ys) h p) (begin xs h p₁)
-    (begin ys (leavesOf setup (begin xs h p₁) first .held) p₂) whole first second
+    → CutAt setup (leavesOf setup (begin (xs ++ ys) h p) whole) (begin xs h p₁) ys p₂
 
 -- the two parts are accepted, and `render` of one and then of the other leaves the output, lines and memories that
 -- `render` of the whole leaves
@@ -188,6 +202,7 @@ RenderCutAnywhere = (setup : Setup) (n : ℕ) (xs ys : List Float) (h : Held) (p
 -- `toEnd` is such an order
 pub record Rendering (setup : Setup) (s : State Float Held) : Type 0 where
   pub some : Taken setup s (toEnd setup s)
+  pub same : leavesOf setup s (toEnd setup s) ≡ renderedOf setup s
   pub done : AllAt setup (framesOf (s .samples)) (renderedOf setup s)
   pub any : (order : List ℕ) → Taken setup s order → AllAt setup (framesOf (s .samples)) (leavesOf setup s order)
       → leavesOf setup s order ≡ renderedOf setup s

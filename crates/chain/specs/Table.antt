@@ -4,13 +4,15 @@
 -- theory_tables. Definitions only.
 use mathlib.Core.Path.{_≡_}
 use mathlib.Core.Bool.{true, false}
-use mathlib.Core.List.{List, []}
+use mathlib.Core.List.{List, [], _++_}
 use Prim.Native.Nat.{ℕ}
-use lib.Ieee.{Float}
-use lib.ListN.{length}
+use lib.Ieee.{Float, binary32, ofBits}
+use lib.ListN.{length, replicate, drop}
 use Rattle.line.specs.Held.{Held}
 use Rattle.theory_order.specs.Chain.{State}
 use Rattle.theory_tables.specs.Rows.{ByTheTable}
+use Rattle.memories.specs.Sizes.{allPositions, allFloats}
+use Rattle.memories.specs.Memories.{zeroMemories}
 use Rattle.stage.specs.declared.setup.Setup.{Setup}
 use Rattle.stage.specs.Setup.{usedOf}
 use Rattle.line_layout.specs.Layout.{neededOf}
@@ -19,7 +21,7 @@ use Rattle.answer.specs.Answer.{numberOf, placeOf, acceptedOf}
 use Rattle.refusals.specs.Refusals.{chainRows, refusalRows, chainAnswer}
 use Rattle.chain.specs.Chain.{ordered}
 use Rattle.chain.specs.Run.{answerOn, leavesOf, renderedOf}
-use Rattle.fresh_start.specs.Start.{clearedTo, startedOf}
+use Rattle.fresh_start.specs.Start.{startedOf}
 
 -- a call of `run` answers by the table: "a refusal comes exactly under its condition, gives its number and place, and
 -- changes no sample, line, memory or progress"
@@ -43,14 +45,22 @@ abbrev pub RenderUnchanged : Type 0
 RenderUnchanged = (setup : Setup) (s : State Float Held) → acceptedOf (answerOn setup s []) ≡ false
     → renderedOf setup s ≡ s
 
+-- +0: the f32 whose bits are all 0
+abbrev pub plusZero : Float
+plusZero = ofBits binary32 0
+
 -- "a fresh start makes checks 1 to 5, then clears the needed floats"; refused, it changes no float
 pub record StartTabled (setup : Setup) (store : List Float) : Type 0 where
   pub answer : ByTheTable numberOf placeOf (chainRows setup (neededOf setup) (length store)) Accepted
       (chainAnswer setup (neededOf setup) (length store))
   pub unchanged : acceptedOf (chainAnswer setup (neededOf setup) (length store)) ≡ false → startedOf setup store ≡ store
   pub cleared : acceptedOf (chainAnswer setup (neededOf setup) (length store)) ≡ true
-      → startedOf setup store ≡ clearedTo (neededOf setup) store
+      → startedOf setup store ≡ replicate (neededOf setup) plusZero ++ drop (neededOf setup) store
   pub all-used : acceptedOf (chainAnswer setup (neededOf setup) (length store)) ≡ true → usedOf setup ≡ setup .count
+  -- "it takes no memories and gives them at zero, refused or not": `zeroMemories`, which `start` promises to give
+  -- whatever its answer is, has all positions at 0 and all floats at +0
+  pub positions : zeroMemories .positions ≡ replicate allPositions 0
+  pub floats : zeroMemories .floats ≡ replicate allFloats plusZero
 
 -- every call of `start` answers by rows 1 to 5 of the table
 abbrev pub StartsTabled : Type 0

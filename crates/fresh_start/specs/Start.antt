@@ -10,9 +10,13 @@ use Rattle.line_layout.specs.Layout.{neededOf}
 use Rattle.answer.specs.Answer.{acceptedOf}
 use Rattle.refusals.specs.Refusals.{chainAnswer}
 
--- the store with its first n floats at +0, where it has so many
+-- what a cleared float is: 0.0, as the code writes it
+abbrev pub clearFloat : Float
+clearFloat = literal binary32 0 1
+
+-- the store with its first n floats cleared, where it has so many
 unfoldable pub clearedTo : ℕ → List Float → List Float
-clearedTo n store = replicate n (literal binary32 0 1) ++ drop n store
+clearedTo n store = replicate n clearFloat ++ drop n store
 
 -- what a fresh start leaves in the store: the needed floats cleared, or all as it was where the start is refused
 unfoldable pub startedOf : Setup → List Float → List Float

@@ -1,4 +1,4 @@
--- The three demands, in the user's words, each closed by the name of its proof. The statements are definitions of crate `chain` (specs/Table.antt, specs/Demands.antt), about what its public functions answer and leave; those of square root and narrowing are of crate `theory_nearest` (specs/Ieee754.antt, specs/Nearest.antt), and those of amplitudes of crate `decibels` (specs/Power.antt). Assumes nothing.
+-- The three demands, in the user's words, each closed by the name of its proof. The statements are definitions: of crate `chain` (specs/Table.antt, specs/Demands.antt, specs/Past.antt), about what its public functions answer and leave; of crate `theory_refusals` (specs/TopStages.antt); of crate `theory_whole_steps` (specs/WholeSteps.antt), about what an accepted step is; those of square root and narrowing are of crate `theory_nearest` (specs/Ieee754.antt, specs/Nearest.antt), and those of amplitudes of crate `decibels` (specs/Power.antt). Assumes nothing.
 use Prim.Native.Nat.{ℕ}
 use mathlib.Core.Bool.{Bool}
 use lib.IntN.{ℤ, pos, negsuc}
@@ -14,10 +14,16 @@ use Rattle.decibels.specs.Amplitude.{amplitudeOf, eqAmplitudeOf}
 use Rattle.decibels.specs.Power.{NearestPower}
 use Rattle.decibels.proofs.AmplitudeRules as Tables
 use Rattle.chain.specs.Table.{AnswersTabled, RenderUnchanged, StartsTabled}
-use Rattle.chain.specs.Demands.{StepByStep, StepsKeepApart, StepsStandAlone, AnyOrder, WholeFrames, CutAnywhere, RenderCutAnywhere, RenderIsRun}
+use Rattle.chain.specs.Demands.{StepByStep, EntriesDecide, StepsKeepApart, StepsStandAlone, AnyOrder, WholeFrames, CutAnywhere, RenderCutAnywhere, RenderIsRun}
+use Rattle.chain.specs.Past.{PastStays}
+use Rattle.theory_refusals.specs.TopStages.{TopStagesHaveDepth0}
+use Rattle.theory_refusals.proofs.TopStages as TopStages
+use Rattle.theory_whole_steps.specs.WholeSteps.{EffectsStand, StepsWhole, LevelsKnown}
+use Rattle.theory_whole_steps.proofs.WholeMet as WholeMet
 use Rattle.chain.proofs.TableMet as TableMet
 use Rattle.chain.proofs.DemandsMet as DemandsMet
 use Rattle.chain.proofs.CutMet as CutMet
+use Rattle.chain.proofs.PastMet as PastMet
 
 -- 1. "Any rate, settings, samples, memories, line store, progress and step order may be passed in. What meets none of document 01's eleven refusals is rendered. A refusal comes exactly under its condition, gives its number and place, and changes no sample, line, memory or progress."
 pub demand-1 : AnswersTabled
@@ -26,12 +32,33 @@ demand-1 = TableMet.answers-tabled
 pub demand-1-render : RenderUnchanged
 demand-1-render = TableMet.render-unchanged
 
+-- document 01: "Progress is counted entry by entry for check 11": an order is accepted exactly where an empty one is and each entry may be run, once the steps before it are taken
+pub demand-1-entries : EntriesDecide
+demand-1-entries = DemandsMet.entries-decide
+
+-- document 01: "A fresh start makes checks 1 to 5, then clears the needed floats; it takes no memories and gives them at zero, refused or not."
 pub demand-1-start : StartsTabled
 demand-1-start = TableMet.starts-tabled
 
--- 2. "Each accepted step gives the Rust's bits": an accepted order is its single steps, and each is the step of the definitions, which are compared with the Rust by running it (compare/)
+-- document 01: "Top stages have depth 0", and a delay "owns the stages after it, as many as it says, nested ones counted"
+pub demand-1-top-stages : TopStagesHaveDepth0
+demand-1-top-stages = TopStages.top-stages
+
+-- "What meets none of document 01's eleven refusals is rendered": the stages of an accepted call are effects with all of their lines and all of the effects inside them
+pub demand-1-effects : EffectsStand
+demand-1-effects = WholeMet.effects-stand
+
+-- 2. "Each accepted step gives the Rust's bits": an accepted order is its single steps, and each is the step of the definitions
 pub demand-2 : StepByStep
 demand-2 = DemandsMet.step-by-step
+
+-- and that step is a frame through one of these effects, as kira takes it: no guard of the definitions is met. That an effect makes of a frame what the Rust makes of it is compared by running the Rust (compare/)
+pub demand-2-whole : StepsWhole
+demand-2-whole = WholeMet.steps-whole
+
+-- "the Rust being fed our amplitudes": each is one of those proved below
+pub demand-2-levels : LevelsKnown
+demand-2-levels = WholeMet.levels-known
 
 -- "Square root and narrowing are proved against IEEE 754"
 pub demand-2-root : (f : Format) → SquareRoot f (sqrtOf f)
@@ -55,7 +82,11 @@ demand-2-only = Evidence.the-nearest
 pub demand-3-step : StepsKeepApart
 demand-3-step = DemandsMet.steps-keep-apart
 
--- document 01: "floats past the last line never change" (above), "and a step's answer doesn't depend on them or on lines of stages it doesn't run"
+-- document 01: "Floats past the last line never change": whatever order is run, rendered, started or refused
+pub demand-3-past : PastStays
+demand-3-past = PastMet.past-stays
+
+-- "and a step's answer doesn't depend on them or on lines of stages it doesn't run"
 pub demand-3-alone : StepsStandAlone
 demand-3-alone = DemandsMet.steps-stand-alone
 

@@ -42,7 +42,8 @@ use Rattle.theory_effects.proofs.Steps.{place-whole}
 use Rattle.theory_effects.proofs.Depths.{four-levels}
 use Rattle.theory_effects.proofs.Built.{parted}
 use Rattle.theory_effects.proofs.Trees.{tree-of}
-use Rattle.theory_whole_steps.specs.WholeSteps.{AllPlaces, listed, samplesOf, StandFor, WholeStep, EffectsStand, StepsWhole}
+use Rattle.theory_whole_steps.specs.WholeSteps.{AllPlaces, listed, samplesOf, StandFor, WholeStep, EffectsStand, StepsWhole, LevelsKnown}
+use Rattle.theory_whole_steps.proofs.LevelsMet.{levels-of}
 use Rattle.theory_whole_steps.proofs.Places.{stand-listed, listed-are, stages-followed, held-followed, full-parts, full-followed, TopEffect, top-effect}
 
 -- ---- a stretch in the middle
@@ -253,3 +254,10 @@ effects-stand setup s order all a t =
         held = sym (parted (neededOf setup) (placePositions * c) (placeFloats * c) (s .held)) ∙ ap (λ (h : Held). joined h past) (sym (tree .3));
       },
     )
+
+-- ---- and their amplitudes
+
+pub levels-known : LevelsKnown
+levels-known setup s order effects past all t st =
+    let z = clear setup s order t in
+    levels-of setup (usedOf setup) (z .settings) effects 0 (stands setup effects all (z .few) (st .stages)) (omega (arith, many setup effects all (z .few) (st .stages)))

@@ -18,6 +18,7 @@ use Rattle.chain.specs.Demands.{Arrays, Taken, nextFrame}
 use Rattle.theory_effects.specs.Effects.{Effect, Effects, Spare, next, followedBy, howMany}
 use Rattle.theory_effects.specs.Process.{process}
 use Rattle.theory_effects.specs.Standing.{stagesOf, heldOf, AllFull}
+use Rattle.theory_whole_steps.specs.Levels.{AllLevels}
 
 -- the list has as many places as the type of its array says
 abbrev pub AllPlaces : Setup → Type 0
@@ -66,3 +67,8 @@ abbrev pub StepsWhole : Type 0
 StepsWhole = (setup : Setup) (s : State Float Held) (k : ℕ) (effects : Effects) (past : Held) → AllPlaces setup
     → Arrays s → Taken setup s (k ∷ []) → StandFor setup (s .held) effects past
     → WholeStep setup k s (leavesOf setup s (k ∷ [])) effects past
+
+-- and every amplitude that it takes is one of document 01's: no setting in decibels is past the end of the lists
+abbrev pub LevelsKnown : Type 0
+LevelsKnown = (setup : Setup) (s : State Float Held) (order : List ℕ) (effects : Effects) (past : Held) → AllPlaces setup
+    → Taken setup s order → StandFor setup (s .held) effects past → AllLevels effects

@@ -2,10 +2,10 @@
 use mathlib.Core.Path.{_≡_, refl, ap, _∙_}
 use Prim.Native.Nat.{_≤_, _-_}
 use native.Mathlib.Omega.{arith}
-use lib.Ieee.{binary32, ofBits, round}
+use lib.Ieee.{ofBits, round}
 use lib.ListN.{length, set, length-set}
 use Rattle.float.specs.Literal.{literal}
-use Rattle.fresh_start.specs.Start.{clearedTo}
+use Rattle.fresh_start.specs.Start.{clearFloat, clearedTo}
 use Rattle.fresh_start.proofs.Cleared.{cleared-none, cleared-more}
 use Rattle.fresh_start.proofs.start.clear.Statement.{statement}
 use Rattle.fresh_start.proofs.start.clear.Tie as tie
@@ -39,8 +39,8 @@ loop-again c =
     let v = c .before .loop .inv in (
       omega arith,
       v .1,
-      ap (λ l. set l at (literal binary32 0 1)) (v .2) ∙ cleared-more at store (omega arith),
-      length-set (c .before .loop .store) at (literal binary32 0 1) ∙ v .3,
+      ap (λ l. set l at clearFloat) (v .2) ∙ cleared-more at store (omega arith),
+      length-set (c .before .loop .store) at clearFloat ∙ v .3,
     )
 
 same-length : tie.Need-same-length Inv-loop μ-loop
