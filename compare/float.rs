@@ -8,6 +8,7 @@
 mod common;
 #[allow(dead_code)]
 mod linked;
+mod written;
 
 use common::{Random, bits32, bits64};
 use linked::{
@@ -18,6 +19,7 @@ use linked::{
 use std::collections::HashSet;
 use std::hint::black_box;
 use std::process::ExitCode;
+use written::print_array;
 
 // Random inputs of each kind, and differences that are printed.
 const RANDOM: u64 = 1_000_000;
@@ -424,35 +426,21 @@ fn sample_narrowings() -> Vec<u64> {
     })
 }
 
-// A hexadecimal number as `rt fmt` keeps it, with _ between groups of four digits.
-fn hex(bits: u64, width: u32) -> String {
-    let groups = (0..width / 16)
-        .rev()
-        .map(|g| format!("{:04x}", bits >> (16 * g) & 0xffff));
-    format!("0x{}", groups.collect::<Vec<_>>().join("_"))
-}
-
-fn print_array(what: &str, name: &str, width: u32, numbers: impl ExactSizeIterator<Item = u64>) {
-    println!("\n// {what}");
-    println!("pub const {name}: [u{width}; {}] = [", numbers.len());
-    for bits in numbers {
-        println!("    {},", hex(bits, width));
-    }
-    println!("];");
-}
-
-// Two arrays of numbers: one array of pairs takes the prover ten times as long.
+// Two arrays of numbers: one array of pairs takes the prover ten times as long. After the inputs come the
+// last two once more, with spoilt answers: of another sign, and with another lowest bit.
 fn print_table(rust: &str, name: &str, from: u32, to: u32, pair: &Pair, inputs: &[u64]) {
+    let mut inputs = inputs.to_vec();
+    inputs.extend_from_within(inputs.len() - 2..);
+    let mut answers: Vec<u64> = inputs.iter().map(|&b| (pair.rust)(b)).collect();
+    let [.., sign, lowest] = &mut answers[..] else {
+        panic!("no inputs");
+    };
+    *sign ^= 1 << (to - 1);
+    *lowest ^= 1;
     let given = format!("What `{rust}` is given.");
-    print_array(
-        &given,
-        &format!("{name}_INPUTS"),
-        from,
-        inputs.iter().copied(),
-    );
+    print_array(&given, &format!("{name}_INPUTS"), from, &inputs);
     let answered = format!("What Rust's `{rust}` answers.");
-    let answers = inputs.iter().map(|&b| (pair.rust)(b));
-    print_array(&answered, &format!("{name}_ANSWERS"), to, answers);
+    print_array(&answered, &format!("{name}_ANSWERS"), to, &answers);
 }
 
 fn print_sample() {
@@ -460,8 +448,9 @@ fn print_sample() {
         "// Inputs, and the answers of Rust's own operations at the same places, as bits; a NaN is"
     );
     println!(
-        "// answered by 0x7fc0_0000 or 0x7ff8_0000_0000_0000. Printed by `compare/run --sample`."
+        "// answered by 0x7fc0_0000 or 0x7ff8_0000_0000_0000. The last two answers of each are spoilt and must be"
     );
+    println!("// found to differ. Printed by `compare/run --sample`.");
     print_table(
         "f32::sqrt",
         "SQRT_F32",
