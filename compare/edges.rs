@@ -289,6 +289,11 @@ fn others(random: &mut Random, cases: &mut Vec<Case>) {
             cases.push(case);
         }
     }
+    for rate in [8_000, 11_025, 22_050, 44_100, 48_000, 96_000, 192_000] {
+        let mut case = silent(rate, vec![reverb(0.9, 0.1, 1.0, 0.5)], 0);
+        case.calls[0].what = What::FloatsNeeded;
+        cases.push(case);
+    }
 }
 
 pub fn cases(random: &mut Random) -> Vec<Case> {

@@ -426,6 +426,17 @@ fn sample_narrowings() -> Vec<u64> {
     })
 }
 
+// What clamps and the like tell apart: both zeros and what lies next to them, 1 and -1 with theirs, the
+// largest, the infinities, NaN, and some further values.
+fn sample_bounds(f: Format, further: &[u64]) -> Vec<u64> {
+    let (sign, top) = (1 << (f.width - 1), f.ones() << f.digits);
+    let (one, two) = (f.of_whole(1, 0), f.of_whole(2, 0));
+    let positive = [0, 1, one - 1, one, one + 1, two, top - 1, top, top | 1];
+    let mut chosen: Vec<u64> = positive.iter().flat_map(|&b| [b, sign | b]).collect();
+    chosen.extend(further);
+    chosen
+}
+
 // Two arrays of numbers: one array of pairs takes the prover ten times as long. After the inputs come the
 // last two once more, with spoilt answers: of another sign, and with another lowest bit.
 fn print_table(rust: &str, name: &str, from: u32, to: u32, pair: &Pair, inputs: &[u64]) {
@@ -468,6 +479,19 @@ fn print_sample() {
         &sample_roots(F64),
     );
     print_table("as f32", "AS_F32", 64, 32, &AS_F32, &sample_narrowings());
+    let half = bits32(0.5);
+    let singles = sample_bounds(F32, &[half, half | 1 << 31]);
+    print_table("f32::abs", "ABS_F32", 32, 32, &ABS_F32, &singles);
+    let unit = "f32::clamp(0.0, 1.0)";
+    print_table(unit, "UNIT_F32", 32, 32, &CLAMP_UNIT_F32, &singles);
+    let both = "f32::clamp(-1.0, 1.0)";
+    print_table(both, "SIGNED_UNIT_F32", 32, 32, &CLAMP_BOTH_F32, &singles);
+    let hundredth = bits64(0.01);
+    let doubles = sample_bounds(F64, &[hundredth - 1, hundredth, hundredth + 1, bits64(0.5)]);
+    let unit = "f64::clamp(0.0, 1.0)";
+    print_table(unit, "UNIT_F64", 64, 64, &CLAMP_UNIT_F64, &doubles);
+    let least = &AT_LEAST_HUNDREDTH_F64;
+    print_table("f64::max(0.01)", "HUNDREDTH_F64", 64, 64, least, &doubles);
 }
 
 fn main() -> ExitCode {

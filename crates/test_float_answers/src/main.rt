@@ -1,29 +1,36 @@
-// Runs the crates `rounding` and `frame` on the inputs of sample.rt and frames.rt, which also have Rust's and
-// kira's own answers to them. Writes for each operation how many answers are the same, bit for bit with all
-// NaNs counted as one, and at which indices they differ. The last two answers of each are spoilt, and so
-// must differ: a comparison that sees nothing is seen.
+// Runs the crates `float`, `rounding` and `frame` on the inputs of sample.rt and frames.rt, which also have
+// Rust's and kira's own answers to them. Writes for each operation how many answers are the same, bit for
+// bit with all NaNs counted as one, and at which indices they differ. The last two answers of each are
+// spoilt, and so must differ: a comparison that sees nothing is seen.
+mod floats;
 mod framed;
 mod frames;
-mod rounded;
 mod sample;
 
-use crate::rounded::as_f32_agrees;
-use crate::rounded::sqrt_f32_agrees;
-use crate::rounded::sqrt_f64_agrees;
 use libc::STDOUT_FILENO;
 
 enum Operation {
     SqrtF32,
     SqrtF64,
     AsF32,
+    AbsF32,
+    UnitF32,
+    SignedUnitF32,
+    UnitF64,
+    HundredthF64,
     Framed { operation: framed::Operation },
 }
 
 fn agrees(operation: Operation, i: usize) -> bool {
     match operation {
-        Operation::SqrtF32 => sqrt_f32_agrees(i),
-        Operation::SqrtF64 => sqrt_f64_agrees(i),
-        Operation::AsF32 => as_f32_agrees(i),
+        Operation::SqrtF32 => floats::sqrt_f32_agrees(i),
+        Operation::SqrtF64 => floats::sqrt_f64_agrees(i),
+        Operation::AsF32 => floats::as_f32_agrees(i),
+        Operation::AbsF32 => floats::abs_f32_agrees(i),
+        Operation::UnitF32 => floats::clamp_unit_f32_agrees(i),
+        Operation::SignedUnitF32 => floats::clamp_signed_unit_f32_agrees(i),
+        Operation::UnitF64 => floats::clamp_unit_f64_agrees(i),
+        Operation::HundredthF64 => floats::at_least_hundredth_f64_agrees(i),
         Operation::Framed { operation } => framed::agrees(operation, i),
     }
 }
@@ -66,6 +73,11 @@ fn main() {
     try_all(b"sqrt_f32", Operation::SqrtF32, 102);
     try_all(b"sqrt_f64", Operation::SqrtF64, 102);
     try_all(b"as_f32", Operation::AsF32, 102);
+    try_all(b"abs_f32", Operation::AbsF32, 22);
+    try_all(b"clamp_unit_f32", Operation::UnitF32, 22);
+    try_all(b"clamp_signed_unit_f32", Operation::SignedUnitF32, 22);
+    try_all(b"clamp_unit_f64", Operation::UnitF64, 24);
+    try_all(b"at_least_hundredth_f64", Operation::HundredthF64, 24);
     try_framed(b"zero", framed::Operation::Zero);
     try_framed(b"new", framed::Operation::New);
     try_framed(b"from_mono", framed::Operation::FromMono);
