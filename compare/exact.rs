@@ -1,5 +1,5 @@
-// Cases that are listed with all that they hold: the inputs of directed.rs, a half run block for each
-// function, and what the flat face refuses before document 01's checks.
+// Cases that are listed with all that they hold: the inputs of directed.rs, mixes of both zeros, a half run
+// block for each function, and what the flat face refuses before document 01's checks.
 use crate::case::{Case, Listed, What};
 use crate::directed::DIRECTED;
 use crate::edges::{OTHERS, delay, distortion, eq, filter, panning, reverb, silent, volume};
@@ -15,6 +15,25 @@ fn directed() -> impl Iterator<Item = Case> {
         case.held.floats[COMB_FLOATS..FLOATS].copy_from_slice(&[ic1eq, ic1eq, ic2eq, ic2eq]);
         case
     })
+}
+
+// A mix of 0 and one of -0, on an input of -0: only the sign of a zero that comes out tells them apart.
+fn zero_mixes() -> Vec<Case> {
+    let of_mix = |mix: f32| {
+        let mut stages = vec![reverb(0.9, 0.1, 1.0, mix), delay(1, 0, mix, 0)];
+        stages.extend((0..2).map(|kind| distortion(kind, 6, mix)));
+        stages.extend((0..4).map(|mode| filter(mode, 6, 0.5, mix)));
+        stages
+    };
+    let stages = [0.0, -0.0].into_iter().flat_map(of_mix);
+    let cases = stages.map(|stage| {
+        let mut case = silent(8_000, vec![stage], 2);
+        case.held.samples.fill(-0.0);
+        case.held.floats[..FLOATS].fill(0.5);
+        case.held.store.iter_mut().take(2).for_each(|x| *x = 0.5);
+        case
+    });
+    cases.collect()
 }
 
 // A half run block of a delay, which owns a filter, and a volume, with something at the first and the last
@@ -111,6 +130,7 @@ fn odd_words() -> Vec<Case> {
 
 pub fn cases() -> Vec<Case> {
     let mut cases: Vec<Case> = directed().collect();
+    cases.extend(zero_mixes());
     cases.extend(half_runs());
     cases.extend(lengths());
     cases.extend(odd_words());
