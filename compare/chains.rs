@@ -8,7 +8,10 @@
 // small as it could be made.
 mod case;
 mod common;
+mod directed;
 mod drawn;
+mod edges;
+mod exact;
 mod expected;
 mod face;
 mod fed;
@@ -20,6 +23,8 @@ mod linked;
 mod listed;
 mod panics;
 mod rates;
+#[allow(dead_code)]
+mod regrouped;
 mod shrink;
 mod small;
 mod smaller;
@@ -68,6 +73,16 @@ fn compare_cases(
         tally.check(judged.is_ok(), || shrink::report(&case));
     }
     tally.close()
+}
+
+// The cases that the program `test_kira_answers` has too, with all that they hold.
+fn compare_listed(seen: &mut Seen) -> bool {
+    let mut listed = edges::cases(&mut Random(SEED));
+    listed.extend(exact::cases());
+    let (count, mut listed) = (listed.len() as u64, listed.into_iter());
+    compare_cases("listed cases", "calls", count, seen, || {
+        listed.next().expect("as many as were counted")
+    })
 }
 
 fn compare_round(seed: u64, rates: &Rates, seen: &mut Seen) -> bool {
@@ -133,6 +148,7 @@ fn compare(seed: u64, rounds: u64) -> bool {
         return false;
     }
     let seen = &mut Seen::default();
+    same &= compare_listed(seen);
     same &= small::shapes(seen);
     same &= small::orders(seen);
     for round in 0..rounds {

@@ -1,5 +1,6 @@
-// Cases that are listed and not left to chance: each kind and mode at each depth, each setting at and
-// past the ends of its range, counts of stages, lengths of blocks, rates.
+// Cases that are listed and not left to chance: each kind and mode at each depth, each limit of a setting
+// at the number itself and at the next one on both sides, counts of stages, lengths of blocks, rates. Most
+// of what they hold is drawn.
 use crate::case::{Call, Case, Listed, What};
 use crate::common::Random;
 use crate::face::Held;
@@ -8,15 +9,33 @@ use crate::inputs::{DOUBLES, QS, SINGLES, audible, sample};
 use crate::stage::Stage;
 use crate::table::{ALL_FLOATS, ALL_POSITIONS, Delay, PLACES, POSITIONS, Reverb};
 
-const LEVELS: [i32; 10] = [i32::MIN, -61, -60, -59, -24, 0, 24, 25, 1000, i32::MAX];
+// The limits 24, -24 and -59, and what lies next to them and to -60.
+const LEVELS: [i32; 14] = [
+    i32::MIN,
+    -61,
+    -60,
+    -59,
+    -58,
+    -25,
+    -24,
+    -23,
+    0,
+    23,
+    24,
+    25,
+    1000,
+    i32::MAX,
+];
 
-const UNITS: [f32; 9] = [
+// The limits 0 and 1, and what lies next to them.
+const UNITS: [f32; 10] = [
     0.0,
     -0.0,
+    0.0f32.next_up(),
+    0.0f32.next_down(),
     1.0,
-    f32::from_bits(1),
-    -f32::from_bits(1),
-    1.0 + f32::EPSILON,
+    1.0f32.next_down(),
+    1.0f32.next_up(),
     -1.0,
     f32::INFINITY,
     f32::NAN,
@@ -24,20 +43,20 @@ const UNITS: [f32; 9] = [
 
 // ---- stages
 
-fn volume(volume: i32) -> Listed {
+pub fn volume(volume: i32) -> Listed {
     Listed::Alone(Stage::Volume { volume })
 }
 
-fn panning(panning: f32) -> Listed {
+pub fn panning(panning: f32) -> Listed {
     Listed::Alone(Stage::Panning { panning })
 }
 
-fn distortion(kind: usize, drive: i32, mix: f32) -> Listed {
+pub fn distortion(kind: usize, drive: i32, mix: f32) -> Listed {
     let kind = kind as u32 % 2;
     Listed::Alone(Stage::Distortion { kind, drive, mix })
 }
 
-fn filter(mode: usize, key: u64, resonance: f64, mix: f32) -> Listed {
+pub fn filter(mode: usize, key: u64, resonance: f64, mix: f32) -> Listed {
     Listed::Alone(Stage::Filter {
         mode: mode as u32 % 4,
         key,
@@ -46,12 +65,12 @@ fn filter(mode: usize, key: u64, resonance: f64, mix: f32) -> Listed {
     })
 }
 
-fn eq(kind: usize, key: u64, gain: i32, q: f64) -> Listed {
+pub fn eq(kind: usize, key: u64, gain: i32, q: f64) -> Listed {
     let kind = kind as u32 % 3;
     Listed::Alone(Stage::Eq { kind, key, q, gain })
 }
 
-fn reverb(feedback: f32, damping: f32, width: f32, mix: f32) -> Listed {
+pub fn reverb(feedback: f32, damping: f32, width: f32, mix: f32) -> Listed {
     Listed::Reverb(Reverb {
         feedback,
         damping,
@@ -60,7 +79,7 @@ fn reverb(feedback: f32, damping: f32, width: f32, mix: f32) -> Listed {
     })
 }
 
-fn delay(frames: u32, feedback: i32, mix: f32, owned: usize) -> Listed {
+pub fn delay(frames: u32, feedback: i32, mix: f32, owned: usize) -> Listed {
     Listed::Delay(Delay {
         frames,
         feedback,
@@ -110,7 +129,7 @@ fn kinds(random: &mut Random) -> Vec<Listed> {
     list
 }
 
-// Each setting at and past its ends, the others plain.
+// Each setting at and past its limits, the others plain. Those of g are among the keys of fed.rs.
 fn settings() -> Vec<Listed> {
     let mut list = vec![];
     list.extend(LEVELS.map(volume));
@@ -131,7 +150,7 @@ fn settings() -> Vec<Listed> {
     list.extend(UNITS.map(|x| reverb(x, 0.1, 1.0, 0.5)));
     list.extend(UNITS.map(|x| reverb(0.9, x, 1.0, 0.5)));
     list.extend(UNITS.map(|x| reverb(0.9, 0.1, x, 0.5)));
-    let frames = [0, 1, 2, 8_192, 8_193, 480_000, 480_001, u32::MAX];
+    let frames = [0, 1, 2, 8_192, 8_193, 479_999, 480_000, 480_001, u32::MAX];
     list.extend(frames.map(|frames| delay(frames, -6, 0.5, 0)));
     let owned = [1, 15, 16, 1 << 32, 1 << 63, usize::MAX - 1, usize::MAX];
     list.extend(owned.map(|owned| delay(1, -6, 0.5, owned)));
@@ -141,38 +160,47 @@ fn settings() -> Vec<Listed> {
 // ---- cases
 
 // Each top stage is run on each frame, from a progress of 0 on. The store is as long as is needed, where
-// a record has room for that.
-fn case(random: &mut Random, rate: u32, stages: Vec<Listed>, samples: usize) -> Case {
+// a record has room for that, and all is 0.
+pub fn silent(rate: u32, stages: Vec<Listed>, samples: usize) -> Case {
     let needed: usize = stages.iter().map(|stage| stage.floats(rate)).sum();
-    let mut held = Held {
-        samples: (0..samples).map(|_| audible(random)).collect(),
-        positions: vec![0; ALL_POSITIONS],
-        floats: (0..ALL_FLOATS).map(|_| sample(random)).collect(),
-        store: (0..needed.min(16_384)).map(|_| sample(random)).collect(),
-        progress: vec![0; PLACES],
+    let mut case = Case {
+        rate,
+        stages,
+        loose: 0,
+        held: Held {
+            samples: vec![0.0; samples],
+            positions: vec![0; ALL_POSITIONS],
+            floats: vec![0.0; ALL_FLOATS],
+            store: vec![0.0; needed.min(16_384)],
+            progress: vec![0; PLACES],
+        },
+        calls: vec![Call {
+            block: None,
+            what: What::Start,
+            at_once: 0,
+        }],
     };
-    for (place, stage) in stages.iter().take(PLACES).enumerate() {
+    let tops = case.tops().len();
+    let steps = tops * (samples / 2);
+    case.calls[0].what = What::Run((0..steps.min(64)).map(|i| i % tops).collect());
+    case
+}
+
+// The same, with something in every place.
+fn case(random: &mut Random, rate: u32, stages: Vec<Listed>, samples: usize) -> Case {
+    let mut case = silent(rate, stages, samples);
+    let held = &mut case.held;
+    held.samples.fill_with(|| audible(random));
+    held.floats.fill_with(|| sample(random));
+    held.store.fill_with(|| sample(random));
+    for (place, stage) in case.stages.iter().take(PLACES).enumerate() {
         let lines = stage.read().map_or(vec![], |stage| stage.lines(rate));
         for (line, &length) in lines.iter().enumerate() {
             let at = random.below(length as u64) as usize;
             held.positions[POSITIONS * place + line] = at;
         }
     }
-    let call = Call {
-        block: None,
-        what: What::Run(vec![]),
-        at_once: random.one_of(&[0, 1, 4_096]),
-    };
-    let mut case = Case {
-        rate,
-        stages,
-        loose: 0,
-        held,
-        calls: vec![call],
-    };
-    let tops = case.tops().len();
-    let frames = samples / 2;
-    case.calls[0].what = What::Run((0..(tops * frames).min(64)).map(|i| i % tops).collect());
+    case.calls[0].at_once = random.one_of(&[0, 1, 4_096]);
     case
 }
 
@@ -225,12 +253,46 @@ fn blocks(random: &mut Random, cases: &mut Vec<Case>) {
 }
 
 fn rates(random: &mut Random, cases: &mut Vec<Case>) {
-    for rate in [0, 1, 7_999, 8_000, 192_000, 192_001, u32::MAX] {
+    for rate in [
+        0,
+        1,
+        7_999,
+        8_000,
+        8_001,
+        191_999,
+        192_000,
+        192_001,
+        u32::MAX,
+    ] {
         cases.push(case(random, rate, vec![panning(-0.3)], 2));
     }
     for rate in [8_000, 11_025, 16_000, 22_050] {
         let stages = vec![reverb(0.8, 0.3, 0.7, 0.4)];
         cases.push(case(random, rate, stages, 4));
+    }
+}
+
+// The functions other than `run`.
+pub const OTHERS: [What; 3] = [What::Render, What::Start, What::FloatsNeeded];
+
+fn others(random: &mut Random, cases: &mut Vec<Case>) {
+    for what in OTHERS {
+        for rate in [7_999, 8_000, 192_000, 192_001] {
+            let mut case = case(random, rate, vec![delay(2, -6, 0.5, 0)], 4);
+            case.calls[0].what = what.clone();
+            cases.push(case);
+        }
+        for stage in kinds(random) {
+            let stages = nested(random, stage, 1);
+            let mut case = case(random, 8_000, stages, 4);
+            case.calls[0].what = what.clone();
+            cases.push(case);
+        }
+    }
+    for rate in [8_000, 11_025, 22_050, 44_100, 48_000, 96_000, 192_000] {
+        let mut case = silent(rate, vec![reverb(0.9, 0.1, 1.0, 0.5)], 0);
+        case.calls[0].what = What::FloatsNeeded;
+        cases.push(case);
     }
 }
 
@@ -243,5 +305,6 @@ pub fn cases(random: &mut Random) -> Vec<Case> {
     counts(random, &mut cases);
     blocks(random, &mut cases);
     rates(random, &mut cases);
+    others(random, &mut cases);
     cases
 }

@@ -8,6 +8,7 @@
 mod common;
 #[allow(dead_code)]
 mod linked;
+mod written;
 
 use common::{Random, bits32, bits64};
 use linked::{
@@ -18,6 +19,7 @@ use linked::{
 use std::collections::HashSet;
 use std::hint::black_box;
 use std::process::ExitCode;
+use written::print_array;
 
 // Random inputs of each kind, and differences that are printed.
 const RANDOM: u64 = 1_000_000;
@@ -424,35 +426,32 @@ fn sample_narrowings() -> Vec<u64> {
     })
 }
 
-// A hexadecimal number as `rt fmt` keeps it, with _ between groups of four digits.
-fn hex(bits: u64, width: u32) -> String {
-    let groups = (0..width / 16)
-        .rev()
-        .map(|g| format!("{:04x}", bits >> (16 * g) & 0xffff));
-    format!("0x{}", groups.collect::<Vec<_>>().join("_"))
+// What clamps and the like tell apart: both zeros and what lies next to them, 1 and -1 with theirs, the
+// largest, the infinities, NaN, and some further values.
+fn sample_bounds(f: Format, further: &[u64]) -> Vec<u64> {
+    let (sign, top) = (1 << (f.width - 1), f.ones() << f.digits);
+    let (one, two) = (f.of_whole(1, 0), f.of_whole(2, 0));
+    let positive = [0, 1, one - 1, one, one + 1, two, top - 1, top, top | 1];
+    let mut chosen: Vec<u64> = positive.iter().flat_map(|&b| [b, sign | b]).collect();
+    chosen.extend(further);
+    chosen
 }
 
-fn print_array(what: &str, name: &str, width: u32, numbers: impl ExactSizeIterator<Item = u64>) {
-    println!("\n// {what}");
-    println!("pub const {name}: [u{width}; {}] = [", numbers.len());
-    for bits in numbers {
-        println!("    {},", hex(bits, width));
-    }
-    println!("];");
-}
-
-// Two arrays of numbers: one array of pairs takes the prover ten times as long.
+// Two arrays of numbers: one array of pairs takes the prover ten times as long. After the inputs come the
+// last two once more, with spoilt answers: of another sign, and with another lowest bit.
 fn print_table(rust: &str, name: &str, from: u32, to: u32, pair: &Pair, inputs: &[u64]) {
+    let mut inputs = inputs.to_vec();
+    inputs.extend_from_within(inputs.len() - 2..);
+    let mut answers: Vec<u64> = inputs.iter().map(|&b| (pair.rust)(b)).collect();
+    let [.., sign, lowest] = &mut answers[..] else {
+        panic!("no inputs");
+    };
+    *sign ^= 1 << (to - 1);
+    *lowest ^= 1;
     let given = format!("What `{rust}` is given.");
-    print_array(
-        &given,
-        &format!("{name}_INPUTS"),
-        from,
-        inputs.iter().copied(),
-    );
+    print_array(&given, &format!("{name}_INPUTS"), from, &inputs);
     let answered = format!("What Rust's `{rust}` answers.");
-    let answers = inputs.iter().map(|&b| (pair.rust)(b));
-    print_array(&answered, &format!("{name}_ANSWERS"), to, answers);
+    print_array(&answered, &format!("{name}_ANSWERS"), to, &answers);
 }
 
 fn print_sample() {
@@ -460,8 +459,9 @@ fn print_sample() {
         "// Inputs, and the answers of Rust's own operations at the same places, as bits; a NaN is"
     );
     println!(
-        "// answered by 0x7fc0_0000 or 0x7ff8_0000_0000_0000. Printed by `compare/run --sample`."
+        "// answered by 0x7fc0_0000 or 0x7ff8_0000_0000_0000. The last two answers of each are spoilt and must be"
     );
+    println!("// found to differ. Printed by `compare/run --sample`.");
     print_table(
         "f32::sqrt",
         "SQRT_F32",
@@ -479,6 +479,19 @@ fn print_sample() {
         &sample_roots(F64),
     );
     print_table("as f32", "AS_F32", 64, 32, &AS_F32, &sample_narrowings());
+    let half = bits32(0.5);
+    let singles = sample_bounds(F32, &[half, half | 1 << 31]);
+    print_table("f32::abs", "ABS_F32", 32, 32, &ABS_F32, &singles);
+    let unit = "f32::clamp(0.0, 1.0)";
+    print_table(unit, "UNIT_F32", 32, 32, &CLAMP_UNIT_F32, &singles);
+    let both = "f32::clamp(-1.0, 1.0)";
+    print_table(both, "SIGNED_UNIT_F32", 32, 32, &CLAMP_BOTH_F32, &singles);
+    let hundredth = bits64(0.01);
+    let doubles = sample_bounds(F64, &[hundredth - 1, hundredth, hundredth + 1, bits64(0.5)]);
+    let unit = "f64::clamp(0.0, 1.0)";
+    print_table(unit, "UNIT_F64", 64, 64, &CLAMP_UNIT_F64, &doubles);
+    let least = &AT_LEAST_HUNDREDTH_F64;
+    print_table("f64::max(0.01)", "HUNDREDTH_F64", 64, 64, least, &doubles);
 }
 
 fn main() -> ExitCode {

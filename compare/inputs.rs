@@ -30,7 +30,7 @@ const LEAST: f32 = f32::from_bits(1);
 const HALF_UNIT: f32 = f32::EPSILON / 2.0;
 
 // For samples, mixes and pannings alike.
-pub const SINGLES: [f32; 30] = [
+pub const SINGLES: [f32; 32] = [
     0.0,
     -0.0,
     1.0,
@@ -58,6 +58,8 @@ pub const SINGLES: [f32; 30] = [
     -f32::MIN_POSITIVE,
     f32::MAX,
     f32::MIN,
+    f32::MAX.next_down(),
+    f32::MIN.next_up(),
     1e30,
     -1e30,
     f32::INFINITY,
@@ -66,7 +68,7 @@ pub const SINGLES: [f32; 30] = [
 ];
 
 // For resonances.
-pub const DOUBLES: [f64; 18] = [
+pub const DOUBLES: [f64; 20] = [
     0.0,
     -0.0,
     1.0,
@@ -82,27 +84,32 @@ pub const DOUBLES: [f64; 18] = [
     0.1,
     f64::MAX,
     f64::MIN,
+    f64::MAX.next_down(),
+    f64::MIN.next_up(),
     f64::INFINITY,
     f64::NEG_INFINITY,
     f64::NAN,
 ];
 
-pub const QS: [f64; 22] = [
+pub const QS: [f64; 25] = [
     0.0,
     -0.0,
     0.01,
-    f64::from_bits(0x3f84_7ae1_47ae_147a),
-    f64::from_bits(0x3f84_7ae1_47ae_147c),
+    0.01f64.next_down(),
+    0.01f64.next_up(),
     0.009,
     0.02,
     1000.0,
-    f64::from_bits(0x408f_3fff_ffff_ffff),
+    1000.0f64.next_down(),
+    1000.0f64.next_up(),
+    1001.0,
     1.0,
     0.5,
     std::f64::consts::FRAC_1_SQRT_2,
     2.0,
     10.0,
     5e-324,
+    -5e-324,
     f64::MIN_POSITIVE,
     -1.0,
     1e300,

@@ -3,13 +3,14 @@
 use crate::case::{Case, What};
 use crate::common::bits32;
 use crate::face::Held;
-use crate::table::Refusal;
+use crate::table::{ALL_FLOATS, ALL_POSITIONS, PLACES, Refusal};
+use crate::words::WORDS;
 
 // The most that the program has room for.
 const SAMPLES: usize = 8_194;
 const STORE: usize = 16_384;
 const ENTRIES: usize = 256;
-const STAGES: usize = 20;
+const ALL_WORDS: usize = 21 * WORDS;
 
 // The largest unit stands for the largest number; those from it on have no unit.
 pub const LARGEST: usize = 0xffff;
@@ -88,34 +89,67 @@ impl Body {
     }
 }
 
-// The order of a case that there is room for.
-fn order_of(case: &Case) -> Option<&[usize]> {
-    let held = &case.held;
-    let fits =
-        case.stages.len() <= STAGES && held.samples.len() <= SAMPLES && held.store.len() <= STORE;
+// The function that a case calls first, by its number, with the order that it gets.
+fn call_of(case: &Case) -> (u16, &[usize]) {
     match &case.calls[0].what {
-        What::Run(order) if fits && order.len() <= ENTRIES => Some(order),
-        _ => None,
+        What::Run(order) => (0, order),
+        What::Render => (1, &[]),
+        What::Start => (2, &[]),
+        What::FloatsNeeded => (3, &[]),
     }
+}
+
+// The lengths of what is lent, where there is room for all of it.
+fn lengths(words: &[u64], held: &Held, order: &[usize]) -> Option<[usize; 7]> {
+    let lengths = [
+        words.len(),
+        held.samples.len(),
+        held.store.len(),
+        held.positions.len(),
+        held.floats.len(),
+        held.progress.len(),
+        order.len(),
+    ];
+    let most = [
+        ALL_WORDS,
+        SAMPLES,
+        STORE,
+        ALL_POSITIONS + 1,
+        ALL_FLOATS + 1,
+        PLACES + 1,
+        ENTRIES,
+    ];
+    let fits = lengths
+        .iter()
+        .zip(most)
+        .all(|(&length, most)| length <= most);
+    fits.then_some(lengths)
 }
 
 // The first call of a case, with its answer and what it leaves, where there is room for it.
 pub fn record(case: &Case, answer: Refusal, after: &Held) -> Option<Vec<u8>> {
-    let order = order_of(case)?;
+    let (function, order) = call_of(case);
+    let words = case.words();
+    let lengths = lengths(&words, &case.held, order)?;
     let mut body = Body::default();
-    body.section(|units| put_words(units, &case.words()));
+    body.section(|units| put_words(units, &words));
     body.changes(&zeros(&case.held), &case.held);
     body.section(|units| put_numbers(units, &vec![0; order.len()], order));
     body.changes(&case.held, after);
     body.section(|_| {});
-    let mut units = vec![];
+    // table.rs has the floats needed as the place of an accepted call
+    let is_room = matches!(case.calls[0].what, What::FloatsNeeded) && answer.number == 0;
+    let (place, floats) = if is_room {
+        (0, answer.place)
+    } else {
+        (answer.place, 0)
+    };
+    let mut units = vec![function];
     put_long(&mut units, case.rate as u64);
-    units.push(unit(case.stages.len()));
-    units.push(unit(case.held.samples.len()));
-    units.push(unit(case.held.store.len()));
-    units.push(unit(order.len()));
+    units.extend(lengths.map(unit));
     units.push(unit(answer.number as usize));
-    put_long(&mut units, answer.place as u64);
+    put_long(&mut units, place as u64);
+    put_long(&mut units, floats as u64);
     units.extend(body.starts.iter().map(|&start| unit(start)));
     units.extend(body.units);
     Some(units.iter().flat_map(|unit| unit.to_le_bytes()).collect())

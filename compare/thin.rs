@@ -47,7 +47,8 @@ fn read_soon(random: &mut Random, case: &Case) -> HashSet<usize> {
     for (place, lines) in lines(case).iter().enumerate() {
         let wide = if lines.len() == 1 { 2 } else { 1 };
         for (line, &length) in lines.iter().enumerate() {
-            let at = case.held.positions[POSITIONS * place + line];
+            let own = case.held.positions.get(POSITIONS * place + line);
+            let at = own.copied().unwrap_or(0);
             if length > 0 && (wide == 2 || one_in(random, 2)) {
                 for i in 0..frames {
                     let from = start + wide * ((at % length + i) % length);
@@ -80,7 +81,6 @@ fn positions(random: &mut Random, case: &mut Case) {
     }
 }
 
-// A case whose memories have their lengths.
 pub fn thin(random: &mut Random, case: &mut Case) {
     positions(random, case);
     let soon = read_soon(random, case);

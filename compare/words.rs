@@ -17,7 +17,7 @@ fn below(word: u64, cases: u64) -> Option<()> {
 }
 
 // How many of its words a stage of this kind uses.
-fn used(kind: u64) -> usize {
+pub fn used(kind: u64) -> usize {
     match kind {
         0 | 1 => 2,
         2 => 4,

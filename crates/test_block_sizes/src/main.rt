@@ -1,7 +1,9 @@
 // Runs the same echo in four ways: in one block of 4,096 frames and in 64 blocks of 64 frames, each time
 // frame after frame and stage after stage. Writes two samples that the first way gives, and whether each
-// other way left the same bits. docs/EXAMPLE.md says why it must.
+// other way left the same bits. docs/EXAMPLE.md says why it must. What the first way left is then spoilt in
+// one place of each of its parts, which must be other bits: a comparison that sees nothing is seen.
 mod echo;
+mod spoilt;
 
 use crate::echo::Ended;
 use crate::echo::echo;
@@ -67,4 +69,8 @@ fn main() {
         echo(&mut part, false),
         first,
     );
+    compare(b"a spoilt sample: ", spoilt::sample(first), first);
+    compare(b"a spoilt line: ", spoilt::line(first), first);
+    compare(b"a spoilt float: ", spoilt::float(first), first);
+    compare(b"a spoilt position: ", spoilt::position(first), first);
 }

@@ -12,12 +12,12 @@ use plain_effects::distortion::DistortionKind;
 use stage::kind::Stage;
 use stage::setup;
 
-fn eq_filter(gain: i32) -> Stage {
+fn eq_filter(gain: i32, q: f64) -> Stage {
     Stage::EqFilter {
         kind: EqFilterKind::Bell,
         g: 1.0,
         gain,
-        q: 1.0,
+        q,
     }
 }
 
@@ -106,14 +106,37 @@ pub(crate) fn delays() {
     on_second(b"delay_480001", delay(480001, 0));
 }
 
-pub(crate) fn gains() {
-    on_second(b"eq_gain_24", eq_filter(24));
-    on_second(b"eq_gain_25", eq_filter(25));
+// A delay with this feedback.
+fn feedback(feedback: i32) -> Stage {
+    Stage::Delay {
+        frames: 1,
+        feedback,
+        mix: 1.0,
+        owned: 0,
+    }
+}
+
+pub(crate) fn feedbacks() {
+    on_second(b"feedback_24", feedback(24));
+    on_second(b"feedback_25", feedback(25));
+}
+
+pub(crate) fn equalizers() {
+    on_second(b"eq_gain_-25", eq_filter(-25, 1.0));
+    on_second(b"eq_gain_-24", eq_filter(-24, 1.0));
+    on_second(b"eq_gain_24", eq_filter(24, 1.0));
+    on_second(b"eq_gain_25", eq_filter(25, 1.0));
+    on_second(b"eq_q_-1", eq_filter(0, -1.0));
+    on_second(b"eq_q_0", eq_filter(0, 0.0));
+    on_second(b"eq_q_1000", eq_filter(0, 1000.0));
+    on_second(b"eq_q_1001", eq_filter(0, 1001.0));
 }
 
 pub(crate) fn distortions() {
-    on_second(b"drive_-59", distortion(-59, 0.5));
     on_second(b"drive_-60", distortion(-60, 0.5));
+    on_second(b"drive_-59", distortion(-59, 0.5));
+    on_second(b"drive_24", distortion(24, 0.5));
+    on_second(b"drive_25", distortion(25, 0.5));
     on_second(b"mix_nan", distortion(0, 0.0 / 0.0));
 }
 

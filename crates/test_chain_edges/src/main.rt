@@ -14,7 +14,8 @@ fn main() {
     list::most_owned();
     list::volumes();
     list::delays();
-    list::gains();
+    list::feedbacks();
+    list::equalizers();
     list::distortions();
     list::stores();
     block::positions();

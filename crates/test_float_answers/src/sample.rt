@@ -1,8 +1,9 @@
 // Inputs, and the answers of Rust's own operations at the same places, as bits; a NaN is
-// answered by 0x7fc0_0000 or 0x7ff8_0000_0000_0000. Printed by `compare/run --sample`.
+// answered by 0x7fc0_0000 or 0x7ff8_0000_0000_0000. The last two answers of each are spoilt and must be
+// found to differ. Printed by `compare/run --sample`.
 
 // What `f32::sqrt` is given.
-pub const SQRT_F32_INPUTS: [u32; 100] = [
+pub const SQRT_F32_INPUTS: [u32; 102] = [
     0x0000_0000,
     0x8000_0000,
     0x0000_0001,
@@ -103,10 +104,12 @@ pub const SQRT_F32_INPUTS: [u32; 100] = [
     0x2d45_7d18,
     0x5248_9800,
     0x06ec_0000,
+    0x5248_9800,
+    0x06ec_0000,
 ];
 
 // What Rust's `f32::sqrt` answers.
-pub const SQRT_F32_ANSWERS: [u32; 100] = [
+pub const SQRT_F32_ANSWERS: [u32; 102] = [
     0x0000_0000,
     0x8000_0000,
     0x1a35_04f3,
@@ -207,10 +210,12 @@ pub const SQRT_F32_ANSWERS: [u32; 100] = [
     0x3660_d95b,
     0x48e2_9c1c,
     0x232d_cdf3,
+    0xc8e2_9c1c,
+    0x232d_cdf2,
 ];
 
 // What `f64::sqrt` is given.
-pub const SQRT_F64_INPUTS: [u64; 100] = [
+pub const SQRT_F64_INPUTS: [u64; 102] = [
     0x0000_0000_0000_0000,
     0x8000_0000_0000_0000,
     0x0000_0000_0000_0001,
@@ -311,10 +316,12 @@ pub const SQRT_F64_INPUTS: [u64; 100] = [
     0x2d2e_7311_be45_7d00,
     0x526b_efd8_9f80_0000,
     0x070a_5500_0000_0000,
+    0x526b_efd8_9f80_0000,
+    0x070a_5500_0000_0000,
 ];
 
 // What Rust's `f64::sqrt` answers.
-pub const SQRT_F64_ANSWERS: [u64; 100] = [
+pub const SQRT_F64_ANSWERS: [u64; 102] = [
     0x0000_0000_0000_0000,
     0x8000_0000_0000_0000,
     0x1e60_0000_0000_0000,
@@ -415,10 +422,12 @@ pub const SQRT_F64_ANSWERS: [u64; 100] = [
     0x368f_3712_0c7c_12ce,
     0x492d_e646_5e87_edfc,
     0x237d_072b_4077_e8b4,
+    0xc92d_e646_5e87_edfc,
+    0x237d_072b_4077_e8b5,
 ];
 
 // What `as f32` is given.
-pub const AS_F32_INPUTS: [u64; 100] = [
+pub const AS_F32_INPUTS: [u64; 102] = [
     0x0000_0000_0000_0000,
     0x8000_0000_0000_0000,
     0x0000_0000_0000_0001,
@@ -519,10 +528,12 @@ pub const AS_F32_INPUTS: [u64; 100] = [
     0x4360_4800_0000_0000,
     0x47fa_4e6d_ba00_0000,
     0x3c10_0000_0000_0000,
+    0x47fa_4e6d_ba00_0000,
+    0x3c10_0000_0000_0000,
 ];
 
 // What Rust's `as f32` answers.
-pub const AS_F32_ANSWERS: [u32; 100] = [
+pub const AS_F32_ANSWERS: [u32; 102] = [
     0x0000_0000,
     0x8000_0000,
     0x0000_0000,
@@ -623,4 +634,274 @@ pub const AS_F32_ANSWERS: [u32; 100] = [
     0x5b02_4000,
     0x7f80_0000,
     0x2080_0000,
+    0xff80_0000,
+    0x2080_0001,
+];
+
+// What `f32::abs` is given.
+pub const ABS_F32_INPUTS: [u32; 22] = [
+    0x0000_0000,
+    0x8000_0000,
+    0x0000_0001,
+    0x8000_0001,
+    0x3f7f_ffff,
+    0xbf7f_ffff,
+    0x3f80_0000,
+    0xbf80_0000,
+    0x3f80_0001,
+    0xbf80_0001,
+    0x4000_0000,
+    0xc000_0000,
+    0x7f7f_ffff,
+    0xff7f_ffff,
+    0x7f80_0000,
+    0xff80_0000,
+    0x7f80_0001,
+    0xff80_0001,
+    0x3f00_0000,
+    0xbf00_0000,
+    0x3f00_0000,
+    0xbf00_0000,
+];
+
+// What Rust's `f32::abs` answers.
+pub const ABS_F32_ANSWERS: [u32; 22] = [
+    0x0000_0000,
+    0x0000_0000,
+    0x0000_0001,
+    0x0000_0001,
+    0x3f7f_ffff,
+    0x3f7f_ffff,
+    0x3f80_0000,
+    0x3f80_0000,
+    0x3f80_0001,
+    0x3f80_0001,
+    0x4000_0000,
+    0x4000_0000,
+    0x7f7f_ffff,
+    0x7f7f_ffff,
+    0x7f80_0000,
+    0x7f80_0000,
+    0x7fc0_0000,
+    0x7fc0_0000,
+    0x3f00_0000,
+    0x3f00_0000,
+    0xbf00_0000,
+    0x3f00_0001,
+];
+
+// What `f32::clamp(0.0, 1.0)` is given.
+pub const UNIT_F32_INPUTS: [u32; 22] = [
+    0x0000_0000,
+    0x8000_0000,
+    0x0000_0001,
+    0x8000_0001,
+    0x3f7f_ffff,
+    0xbf7f_ffff,
+    0x3f80_0000,
+    0xbf80_0000,
+    0x3f80_0001,
+    0xbf80_0001,
+    0x4000_0000,
+    0xc000_0000,
+    0x7f7f_ffff,
+    0xff7f_ffff,
+    0x7f80_0000,
+    0xff80_0000,
+    0x7f80_0001,
+    0xff80_0001,
+    0x3f00_0000,
+    0xbf00_0000,
+    0x3f00_0000,
+    0xbf00_0000,
+];
+
+// What Rust's `f32::clamp(0.0, 1.0)` answers.
+pub const UNIT_F32_ANSWERS: [u32; 22] = [
+    0x0000_0000,
+    0x8000_0000,
+    0x0000_0001,
+    0x0000_0000,
+    0x3f7f_ffff,
+    0x0000_0000,
+    0x3f80_0000,
+    0x0000_0000,
+    0x3f80_0000,
+    0x0000_0000,
+    0x3f80_0000,
+    0x0000_0000,
+    0x3f80_0000,
+    0x0000_0000,
+    0x3f80_0000,
+    0x0000_0000,
+    0x7fc0_0000,
+    0x7fc0_0000,
+    0x3f00_0000,
+    0x0000_0000,
+    0xbf00_0000,
+    0x0000_0001,
+];
+
+// What `f32::clamp(-1.0, 1.0)` is given.
+pub const SIGNED_UNIT_F32_INPUTS: [u32; 22] = [
+    0x0000_0000,
+    0x8000_0000,
+    0x0000_0001,
+    0x8000_0001,
+    0x3f7f_ffff,
+    0xbf7f_ffff,
+    0x3f80_0000,
+    0xbf80_0000,
+    0x3f80_0001,
+    0xbf80_0001,
+    0x4000_0000,
+    0xc000_0000,
+    0x7f7f_ffff,
+    0xff7f_ffff,
+    0x7f80_0000,
+    0xff80_0000,
+    0x7f80_0001,
+    0xff80_0001,
+    0x3f00_0000,
+    0xbf00_0000,
+    0x3f00_0000,
+    0xbf00_0000,
+];
+
+// What Rust's `f32::clamp(-1.0, 1.0)` answers.
+pub const SIGNED_UNIT_F32_ANSWERS: [u32; 22] = [
+    0x0000_0000,
+    0x8000_0000,
+    0x0000_0001,
+    0x8000_0001,
+    0x3f7f_ffff,
+    0xbf7f_ffff,
+    0x3f80_0000,
+    0xbf80_0000,
+    0x3f80_0000,
+    0xbf80_0000,
+    0x3f80_0000,
+    0xbf80_0000,
+    0x3f80_0000,
+    0xbf80_0000,
+    0x3f80_0000,
+    0xbf80_0000,
+    0x7fc0_0000,
+    0x7fc0_0000,
+    0x3f00_0000,
+    0xbf00_0000,
+    0xbf00_0000,
+    0xbf00_0001,
+];
+
+// What `f64::clamp(0.0, 1.0)` is given.
+pub const UNIT_F64_INPUTS: [u64; 24] = [
+    0x0000_0000_0000_0000,
+    0x8000_0000_0000_0000,
+    0x0000_0000_0000_0001,
+    0x8000_0000_0000_0001,
+    0x3fef_ffff_ffff_ffff,
+    0xbfef_ffff_ffff_ffff,
+    0x3ff0_0000_0000_0000,
+    0xbff0_0000_0000_0000,
+    0x3ff0_0000_0000_0001,
+    0xbff0_0000_0000_0001,
+    0x4000_0000_0000_0000,
+    0xc000_0000_0000_0000,
+    0x7fef_ffff_ffff_ffff,
+    0xffef_ffff_ffff_ffff,
+    0x7ff0_0000_0000_0000,
+    0xfff0_0000_0000_0000,
+    0x7ff0_0000_0000_0001,
+    0xfff0_0000_0000_0001,
+    0x3f84_7ae1_47ae_147a,
+    0x3f84_7ae1_47ae_147b,
+    0x3f84_7ae1_47ae_147c,
+    0x3fe0_0000_0000_0000,
+    0x3f84_7ae1_47ae_147c,
+    0x3fe0_0000_0000_0000,
+];
+
+// What Rust's `f64::clamp(0.0, 1.0)` answers.
+pub const UNIT_F64_ANSWERS: [u64; 24] = [
+    0x0000_0000_0000_0000,
+    0x8000_0000_0000_0000,
+    0x0000_0000_0000_0001,
+    0x0000_0000_0000_0000,
+    0x3fef_ffff_ffff_ffff,
+    0x0000_0000_0000_0000,
+    0x3ff0_0000_0000_0000,
+    0x0000_0000_0000_0000,
+    0x3ff0_0000_0000_0000,
+    0x0000_0000_0000_0000,
+    0x3ff0_0000_0000_0000,
+    0x0000_0000_0000_0000,
+    0x3ff0_0000_0000_0000,
+    0x0000_0000_0000_0000,
+    0x3ff0_0000_0000_0000,
+    0x0000_0000_0000_0000,
+    0x7ff8_0000_0000_0000,
+    0x7ff8_0000_0000_0000,
+    0x3f84_7ae1_47ae_147a,
+    0x3f84_7ae1_47ae_147b,
+    0x3f84_7ae1_47ae_147c,
+    0x3fe0_0000_0000_0000,
+    0xbf84_7ae1_47ae_147c,
+    0x3fe0_0000_0000_0001,
+];
+
+// What `f64::max(0.01)` is given.
+pub const HUNDREDTH_F64_INPUTS: [u64; 24] = [
+    0x0000_0000_0000_0000,
+    0x8000_0000_0000_0000,
+    0x0000_0000_0000_0001,
+    0x8000_0000_0000_0001,
+    0x3fef_ffff_ffff_ffff,
+    0xbfef_ffff_ffff_ffff,
+    0x3ff0_0000_0000_0000,
+    0xbff0_0000_0000_0000,
+    0x3ff0_0000_0000_0001,
+    0xbff0_0000_0000_0001,
+    0x4000_0000_0000_0000,
+    0xc000_0000_0000_0000,
+    0x7fef_ffff_ffff_ffff,
+    0xffef_ffff_ffff_ffff,
+    0x7ff0_0000_0000_0000,
+    0xfff0_0000_0000_0000,
+    0x7ff0_0000_0000_0001,
+    0xfff0_0000_0000_0001,
+    0x3f84_7ae1_47ae_147a,
+    0x3f84_7ae1_47ae_147b,
+    0x3f84_7ae1_47ae_147c,
+    0x3fe0_0000_0000_0000,
+    0x3f84_7ae1_47ae_147c,
+    0x3fe0_0000_0000_0000,
+];
+
+// What Rust's `f64::max(0.01)` answers.
+pub const HUNDREDTH_F64_ANSWERS: [u64; 24] = [
+    0x3f84_7ae1_47ae_147b,
+    0x3f84_7ae1_47ae_147b,
+    0x3f84_7ae1_47ae_147b,
+    0x3f84_7ae1_47ae_147b,
+    0x3fef_ffff_ffff_ffff,
+    0x3f84_7ae1_47ae_147b,
+    0x3ff0_0000_0000_0000,
+    0x3f84_7ae1_47ae_147b,
+    0x3ff0_0000_0000_0001,
+    0x3f84_7ae1_47ae_147b,
+    0x4000_0000_0000_0000,
+    0x3f84_7ae1_47ae_147b,
+    0x7fef_ffff_ffff_ffff,
+    0x3f84_7ae1_47ae_147b,
+    0x7ff0_0000_0000_0000,
+    0x3f84_7ae1_47ae_147b,
+    0x3f84_7ae1_47ae_147b,
+    0x3f84_7ae1_47ae_147b,
+    0x3f84_7ae1_47ae_147b,
+    0x3f84_7ae1_47ae_147b,
+    0x3f84_7ae1_47ae_147c,
+    0x3fe0_0000_0000_0000,
+    0xbf84_7ae1_47ae_147c,
+    0x3fe0_0000_0000_0001,
 ];

@@ -1,43 +1,34 @@
-// A case is a head of 22 units and a body of twelve sections. The head has the rate (two units); how
-// many stages, samples, floats of the store and entries of the order there are; the answer's number and
-// its place (two units); and where each section starts and the last one ends. The first section has the
-// stages' words. Five have the samples, store, positions, floats and progress at entry, 0 where nothing
-// is said. One has the order. The last five have what the call changes of the samples and the others.
-ghost use mathlib.Core.Path.{_≡_};
+// A case is a head of 28 units and a body of twelve sections. The head has the function's number; the rate
+// (two units); how long the slices are that it gets: words, samples, store, positions, floats, progress and
+// order; what it must answer: a number, a place (two units) and the floats needed (two units); and where
+// each section starts and the last one ends. The first section has the stages' words. Five have the samples,
+// store, positions, floats and progress at entry, 0 where nothing is said. One has the order. The last five
+// have what the call changes of the samples and the others.
 ghost use Prim.Native.Nat.{_≤_};
 ghost use lib.ListN.{length};
+use crate::call::call;
 use crate::put::put_floats;
 use crate::put::put_numbers;
 use crate::put::put_words;
 use crate::same::is_same;
 use crate::units::long;
 use crate::units::unit;
-use answer::Answer;
-use chain::run::Outcome;
-use chain::run::run;
 use libc::STDIN_FILENO;
-use memories::Memories;
-use memories::PLACES;
-use memories::zero;
-use stage::setup::Setup;
-use stage_words::WORDS;
-use stage_words::setup_of;
+use sedhavil::Room;
 
-// The most stages that a case has: more than a chain may have.
-const STAGES: usize = 20;
-
-const ALL_WORDS: usize = STAGES * WORDS;
-
+// All that a call may change, each with room for the longest slice of a case.
 pub(crate) struct Held {
     pub samples: [f32; 8194],
     pub store: [f32; 16384],
-    pub memories: Memories,
-    pub progress: [usize; PLACES],
+    pub positions: [usize; 385],
+    pub floats: [f32; 321],
+    pub progress: [usize; 17],
 }
 
+// What came of a call.
 struct Answered {
     held: Held,
-    answer: Answer,
+    room: Room,
 }
 
 pub(crate) struct Judged {
@@ -50,13 +41,7 @@ fn start(head: &[u8], section: usize) -> usize
     requires { ⌜ section ≤ 12 ⌝ }
     ensures { λ r. ⌜ r ≤ 65535 ⌝ }
 {
-    unit(head, 9 + section)
-}
-
-fn least(n: usize, most: usize) -> usize
-    ensures { λ r. ⌜ r ≤ most ⌝ }
-{
-    if n < most { n } else { most }
+    unit(head, 15 + section)
 }
 
 fn samples_with(samples: [f32; 8194], head: &[u8], body: &[u8], k: usize) -> [f32; 8194]
@@ -75,17 +60,23 @@ fn store_with(store: [f32; 16384], head: &[u8], body: &[u8], k: usize) -> [f32; 
     changed
 }
 
-fn memories_with(memories: Memories, head: &[u8], body: &[u8], k: usize) -> Memories
-    requires { ⌜ k ≤ 10 ⌝ }
+fn positions_with(positions: [usize; 385], head: &[u8], body: &[u8], k: usize) -> [usize; 385]
+    requires { ⌜ k ≤ 11 ⌝ }
 {
-    let mut positions = memories.positions;
-    put_numbers(body, start(head, k), start(head, k + 1), &mut positions);
-    let mut floats = memories.floats;
-    put_floats(body, start(head, k + 1), start(head, k + 2), &mut floats);
-    Memories { positions, floats }
+    let mut changed = positions;
+    put_numbers(body, start(head, k), start(head, k + 1), &mut changed);
+    changed
 }
 
-fn progress_with(progress: [usize; PLACES], head: &[u8], body: &[u8], k: usize) -> [usize; PLACES]
+fn floats_with(floats: [f32; 321], head: &[u8], body: &[u8], k: usize) -> [f32; 321]
+    requires { ⌜ k ≤ 11 ⌝ }
+{
+    let mut changed = floats;
+    put_floats(body, start(head, k), start(head, k + 1), &mut changed);
+    changed
+}
+
+fn progress_with(progress: [usize; 17], head: &[u8], body: &[u8], k: usize) -> [usize; 17]
     requires { ⌜ k ≤ 11 ⌝ }
 {
     let mut changed = progress;
@@ -99,16 +90,19 @@ fn held_with(held: Held, head: &[u8], body: &[u8], k: usize) -> Held
 {
     let samples = held.samples;
     let store = held.store;
-    let memories = held.memories;
+    let positions = held.positions;
+    let floats = held.floats;
     let progress = held.progress;
     let samples = samples_with(samples, head, body, k);
     let store = store_with(store, head, body, k + 1);
-    let memories = memories_with(memories, head, body, k + 2);
+    let positions = positions_with(positions, head, body, k + 2);
+    let floats = floats_with(floats, head, body, k + 3);
     let progress = progress_with(progress, head, body, k + 4);
     Held {
         samples,
         store,
-        memories,
+        positions,
+        floats,
         progress,
     }
 }
@@ -117,24 +111,17 @@ fn at_entry(head: &[u8], body: &[u8]) -> Held {
     let silence = Held {
         samples: [0.0; 8194],
         store: [0.0; 16384],
-        memories: zero(),
-        progress: [0; PLACES],
+        positions: [0; 385],
+        floats: [0.0; 321],
+        progress: [0; 17],
     };
     held_with(silence, head, body, 1)
 }
 
-// The chain of the first n words.
-fn chain_of(rate: u32, words: &[u64], n: usize) -> Setup
-    requires { ⌜ n ≤ length (now words) ⌝ }
-{
-    setup_of(rate, &words[..n])
-}
-
-fn setup(head: &[u8], body: &[u8]) -> Setup {
-    let mut words = [0; ALL_WORDS];
+fn words(head: &[u8], body: &[u8]) -> [u64; 252] {
+    let mut words = [0; 252];
     put_words(body, start(head, 0), start(head, 1), &mut words);
-    let stages = least(unit(head, 2), STAGES);
-    chain_of(long(head, 0) as u32, &words, WORDS * stages)
+    words
 }
 
 fn order(head: &[u8], body: &[u8]) -> [usize; 256] {
@@ -143,67 +130,52 @@ fn order(head: &[u8], body: &[u8]) -> [usize; 256] {
     order
 }
 
-// The call, with the first n samples, the first `size` floats of the store and the first `entries` entries.
-fn call(
-    setup: Setup,
-    samples: &mut [f32],
-    n: usize,
-    memories: Memories,
-    store: &mut [f32],
-    size: usize,
-    progress: [usize; PLACES],
-    order: &[usize],
-    entries: usize,
-) -> Outcome
-    requires { ⌜ (n ≤ 8194) × (size ≤ 16384) × (entries ≤ 256) ⌝ ∗ ⌜ (length (now samples) ≡ 8194) × (length (now store) ≡ 16384) × (length (now order) ≡ 256) ⌝ }
-{
-    run(
-        setup,
-        &mut samples[..n],
-        memories,
-        &mut store[..size],
-        progress,
-        &order[..entries],
-    )
-}
-
 fn perform(head: &[u8], body: &[u8], held: Held) -> Answered {
-    let setup = setup(head, body);
+    let words = words(head, body);
     let order = order(head, body);
     let mut samples = held.samples;
     let mut store = held.store;
-    let memories = held.memories;
-    let progress = held.progress;
-    let outcome = call(
-        setup,
+    let mut positions = held.positions;
+    let mut floats = held.floats;
+    let mut progress = held.progress;
+    let room = call(
+        head,
+        &words,
         &mut samples,
-        least(unit(head, 3), 8194),
-        memories,
         &mut store,
-        least(unit(head, 4), 16384),
-        progress,
+        &mut positions,
+        &mut floats,
+        &mut progress,
         &order,
-        least(unit(head, 5), 256),
     );
-    let answer = outcome.answer;
-    let memories = outcome.memories;
-    let progress = outcome.progress;
     let held = Held {
         samples,
         store,
-        memories,
+        positions,
+        floats,
         progress,
     };
-    Answered { held, answer }
+    Answered { held, room }
+}
+
+// Whether a call answers what the head says.
+fn is_told(room: Room, head: &[u8]) -> bool {
+    if room.number as usize != unit(head, 10) {
+        return false;
+    }
+    if room.place != long(head, 11) {
+        return false;
+    }
+    room.floats == long(head, 13)
 }
 
 fn judge(head: &[u8], body: &[u8]) -> Judged {
     let held = at_entry(head, body);
     let expected = held_with(held, head, body, 7);
     let done = perform(head, body, held);
-    let answer = done.answer;
-    let number = answer::number(answer) as usize;
-    if number != unit(head, 6) || answer::place(answer) != long(head, 7) {
+    let room = done.room;
+    let number = room.number as usize;
+    if !is_told(room, head) {
         return Judged {
             number,
             is_same: false,
@@ -222,7 +194,7 @@ fn read_body(body: &mut [u8], n: usize)
 }
 
 pub(crate) fn next_case() -> Judged {
-    let mut head = [0; 44];
+    let mut head = [0; 56];
     io::read_full(STDIN_FILENO, &mut head);
     let mut body = [0; 131070];
     read_body(&mut body, 2 * start(&head, 12));

@@ -1,21 +1,26 @@
 // Makes calls whose answers are known, with no Rust at hand. The file stdin, which compare/answers.rs
-// writes, has each call, its answer, and what kira's effects leave. The answer's number and place and
-// all that the call leaves are compared, bit for bit with all NaNs counted as one. Writes how many calls
-// were accepted, how many were refused by each number, how many differ, and which is the first to differ.
+// writes, has each call of the flat face, its answer, and what kira's effects leave. The answer and all that
+// the call leaves are compared, bit for bit with all NaNs counted as one. Writes how many calls were
+// accepted, how many were refused by each number, and how many differ. Then come spoilt cases, which say
+// something wrong in one place each: all of them must differ, so that a comparison that sees nothing is seen.
+mod call;
 mod case;
 mod put;
 mod same;
 mod units;
 
+ghost use Prim.Native.Nat.{_<_};
 use crate::case::next_case;
 use crate::units::long;
 use libc::STDIN_FILENO;
 use libc::STDOUT_FILENO;
 
-// The calls so far: how many had each number as their answer, and how many differ.
+// The calls so far: how many had each number as their answer, how many differ, and how many are not as they
+// must be.
 struct Tally {
-    answers: [u64; 12],
+    answers: [u64; 14],
     differences: u64,
+    wrong: u64,
 }
 
 fn say(name: &[u8], n: u64) {
@@ -32,23 +37,47 @@ fn next(count: u64) -> u64 {
     count
 }
 
-fn counted(tally: Tally, i: usize, number: usize, is_same: bool) -> Tally {
-    let mut answers = tally.answers;
+// Where the answers with a number are counted: 101 and 102 after 0 to 11.
+fn slot(number: usize) -> usize
+    ensures { λ r. ⌜ r < 14 ⌝ }
+{
     if number < 12 {
-        answers[number] = next(answers[number]);
+        return number;
     }
-    if is_same {
+    if number == 101 { 12 } else { 13 }
+}
+
+fn number_at(slot: usize) -> usize {
+    if slot == 12 {
+        return 101;
+    }
+    if slot == 13 { 102 } else { slot }
+}
+
+// Case i is counted; it must be the same, or must differ.
+fn counted(tally: Tally, i: usize, number: usize, is_same: bool, must_be_same: bool) -> Tally {
+    let mut answers = tally.answers;
+    let k = slot(number);
+    answers[k] = next(answers[k]);
+    let differences = if is_same {
+        tally.differences
+    } else {
+        next(tally.differences)
+    };
+    if is_same == must_be_same {
         return Tally {
             answers,
-            differences: tally.differences,
+            differences,
+            wrong: tally.wrong,
         };
     }
-    if tally.differences == 0 {
-        say(b"first difference at ", i as u64);
+    if tally.wrong == 0 {
+        say(b"first wrong one at ", i as u64);
     }
     Tally {
         answers,
-        differences: next(tally.differences),
+        differences,
+        wrong: next(tally.wrong),
     }
 }
 
@@ -56,35 +85,50 @@ fn say_refusals(answers: &[u64]) {
     let mut k = 1;
     while k < answers.len() {
         io::write_all(STDOUT_FILENO, b"refused ");
-        io::print_decimal(STDOUT_FILENO, k as u64);
+        io::print_decimal(STDOUT_FILENO, number_at(k) as u64);
         say(b": ", answers[k]);
         k += 1;
     }
 }
 
-fn run_cases(cases: usize) -> Tally {
+fn run_cases(cases: usize, must_be_same: bool) -> Tally {
     let mut tally = Tally {
-        answers: [0; 12],
+        answers: [0; 14],
         differences: 0,
+        wrong: 0,
     };
     let mut i = 0;
     while i < cases {
         let judged = next_case();
-        let after = counted(tally, i, judged.number, judged.is_same);
+        let after = counted(tally, i, judged.number, judged.is_same, must_be_same);
         tally = after;
         i += 1;
     }
     tally
 }
 
-fn main() {
-    let mut head = [0; 4];
-    io::read_full(STDIN_FILENO, &mut head);
-    let cases = long(&head, 0);
-    let tally = run_cases(cases);
+fn say_cases(cases: usize) {
+    let tally = run_cases(cases, true);
     let answers = tally.answers;
     say(b"cases: ", cases as u64);
     say(b"accepted: ", answers[0]);
     say_refusals(&answers);
     say(b"differences: ", tally.differences);
+}
+
+fn say_spoilt(cases: usize) {
+    let tally = run_cases(cases, false);
+    say(b"spoilt: ", cases as u64);
+    say(b"differences: ", tally.differences);
+}
+
+fn main() {
+    let mut head = [0; 8];
+    io::read_full(STDIN_FILENO, &mut head);
+    say(
+        b"layout version: ",
+        sedhavil::sedhavil_layout_version() as u64,
+    );
+    say_cases(long(&head, 0));
+    say_spoilt(long(&head, 2));
 }

@@ -1,8 +1,7 @@
 // Whether two calls left the same, bit for bit; all NaNs count as one.
 use crate::case::Held;
-use memories::Memories;
 
-fn same_memories(a: Memories, b: Memories) -> bool {
+fn is_same_memory(a: Held, b: Held) -> bool {
     let positions = a.positions;
     let other_positions = b.positions;
     if !same_slices::numbers(&positions, &other_positions) {
@@ -29,7 +28,5 @@ pub(crate) fn is_same(a: Held, b: Held) -> bool {
     if !same_slices::numbers(&progress, &other_progress) {
         return false;
     }
-    let memories = a.memories;
-    let other_memories = b.memories;
-    same_memories(memories, other_memories)
+    is_same_memory(a, b)
 }

@@ -1,8 +1,8 @@
 // Cases of single samples, by their numbers, and of blocks of frames.
 use crate::say;
 use float::bits::from_bits_f32;
-use wav_samples::frames::frames_in;
-use wav_samples::frames::frames_out;
+use sedhavil_wav::sedhavil_wav_frames_in;
+use sedhavil_wav::sedhavil_wav_frames_out;
 
 // The bytes of the samples 0, 1, 32767, -32768, -1, 16384, -16384, -32767.
 const CODES: [u8; 16] = [
@@ -60,7 +60,7 @@ const FLOATS: [u32; 26] = [
 pub(crate) fn sample_in(k: usize) {
     let bytes = CODES;
     let mut samples = [0.0; 8];
-    frames_in(&bytes, &mut samples);
+    sedhavil_wav_frames_in(&bytes, &mut samples);
     if k < 8 {
         say::name(b"in");
         say::next(k as u64);
@@ -75,7 +75,7 @@ pub(crate) fn sample_out(k: usize) {
         let mut samples = [0.0; 26];
         samples[k] = from_bits_f32(FLOATS[k]);
         let mut bytes = [0; 52];
-        frames_out(&samples, &mut bytes);
+        sedhavil_wav_frames_out(&samples, &mut bytes);
         say::name(b"out");
         say::next(k as u64);
         say::byte(bytes[2 * k]);
@@ -89,7 +89,7 @@ fn count_in(bytes: &[u8], samples: &mut [f32]) {
     say::name(b"frames_in");
     say::next(bytes.len() as u64);
     say::next(samples.len() as u64);
-    say::next(frames_in(bytes, samples) as u64);
+    say::next(sedhavil_wav_frames_in(bytes, samples) as u64);
     say::end();
 }
 
@@ -98,7 +98,7 @@ fn count_out(samples: &[f32], bytes: &mut [u8]) {
     say::name(b"frames_out");
     say::next(samples.len() as u64);
     say::next(bytes.len() as u64);
-    say::next(frames_out(samples, bytes) as u64);
+    say::next(sedhavil_wav_frames_out(samples, bytes) as u64);
     say::end();
 }
 
@@ -128,7 +128,7 @@ pub(crate) fn counts() {
 // What lies past the last whole frame stays as it was.
 pub(crate) fn past() {
     let mut samples = [9.0; 4];
-    frames_in(&[0, 64, 0, 192, 255], &mut samples);
+    sedhavil_wav_frames_in(&[0, 64, 0, 192, 255], &mut samples);
     say::name(b"past_in");
     say::bits(samples[0]);
     say::bits(samples[1]);
@@ -136,7 +136,7 @@ pub(crate) fn past() {
     say::bits(samples[3]);
     say::end();
     let mut bytes = [7; 6];
-    frames_out(&[0.5, -0.5, 1.0], &mut bytes);
+    sedhavil_wav_frames_out(&[0.5, -0.5, 1.0], &mut bytes);
     say::name(b"past_out");
     say::byte(bytes[0]);
     say::byte(bytes[1]);

@@ -2,7 +2,7 @@
 // some of them.
 ghost use Prim.Native.Nat.{_<_};
 use crate::say;
-use wav_header::read;
+use sedhavil_wav::sedhavil_wav_header;
 
 // The header of document 01's whole case: RIFF, its size, WAVE, fmt, its size, tag and channels, rate,
 // byte rate, block and bits, data, its size.
@@ -93,7 +93,7 @@ fn say_cut(name: &[u8], k: usize, words: [u32; 11], n: usize, highest: u32) {
     if n <= 44 {
         say::name(name);
         say::next(k as u64);
-        say::answer(read(&bytes[..n], highest));
+        say::answer(sedhavil_wav_header(&bytes[..n], highest));
     }
 }
 

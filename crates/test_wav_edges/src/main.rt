@@ -1,6 +1,6 @@
-// Runs the public functions of the crates `wav_header` and `wav_samples` on both sides of the edges of
-// document 01's WAV format. Writes a line for each case. The file stdout was written from the document
-// by hand.
+// Runs the functions of the crate `sedhavil_wav`, and with it those of `wav_header` and `wav_samples`, on
+// both sides of the edges of document 01's WAV format. Writes a line for each case. The file stdout was
+// written from the document by hand.
 mod data;
 mod head;
 mod say;

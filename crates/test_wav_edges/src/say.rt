@@ -1,8 +1,7 @@
 // What the cases share: numbers on a line.
 use float::bits::to_bits_f32;
 use libc::STDOUT_FILENO;
-use wav_header::Header;
-use wav_header::number;
+use sedhavil_wav::WavHeader;
 
 pub(crate) fn name(text: &[u8]) {
     io::write_all(STDOUT_FILENO, text);
@@ -25,12 +24,10 @@ pub(crate) fn end() {
     io::write_all(STDOUT_FILENO, b"\n");
 }
 
-// The answer's number, and the rate and the size of a header that is read.
-pub(crate) fn answer(header: Header) {
-    next(number(header) as u64);
-    if let Header::Read { rate, size } = header {
-        next(rate as u64);
-        next(size as u64);
-    }
+// The answer's number, and the rate and the size, which are 0 for a header that is refused.
+pub(crate) fn answer(header: WavHeader) {
+    next(header.number as u64);
+    next(header.rate as u64);
+    next(header.size as u64);
     end();
 }

@@ -1,4 +1,4 @@
--- `test_float_answers::try_all` is safe and ends: it counts to 100, and no more agree than were tried.
+-- `test_float_answers::try_all` is safe and ends: it counts as far as it is told, and no more agree than were tried.
 use Prim.Native.Nat.{_≤_, _-_}
 use native.Mathlib.Omega.{arith}
 use mathlib.Core.Logic.{⊎-elim}
@@ -6,16 +6,16 @@ use Rattle.test_float_answers.proofs.try_all.Statement.{statement}
 use Rattle.test_float_answers.proofs.try_all.Tie as tie
 
 abbrev Inv-loop : tie.InvT-loop
-Inv-loop name operation agreed₀ i₀ agreed i = (i ≤ 100) × (agreed ≤ i)
+Inv-loop name operation count agreed₀ i₀ agreed i = (i ≤ count) × (agreed ≤ i)
 
 abbrev μ-loop : tie.MeasureT-loop
-μ-loop name operation agreed₀ i₀ agreed i = 100 - i
+μ-loop name operation count agreed₀ i₀ agreed i = count - i
 
 loop-holds : tie.Need-loop-holds Inv-loop μ-loop
 loop-holds c = omega arith
 
 agrees-requires : tie.Need-agrees-requires Inv-loop μ-loop
-agrees-requires c κs = omega arith
+agrees-requires c κs = tt
 
 add-agreed : tie.Need-add-agreed Inv-loop μ-loop
 add-agreed c = omega arith

@@ -20,6 +20,9 @@ slice-aggregate-write-all c = search needs
 write-all-requires : tie.Need-write-all-requires Inv-loop μ-loop
 write-all-requires c κs = search needs
 
+number-at-requires : tie.Need-number-at-requires Inv-loop μ-loop
+number-at-requires c κs = search needs
+
 print-decimal-requires : tie.Need-print-decimal-requires Inv-loop μ-loop
 print-decimal-requires c κs = search needs
 
@@ -56,6 +59,7 @@ say-refusals-spec =
     loop-holds
     slice-aggregate-write-all
     write-all-requires
+    number-at-requires
     print-decimal-requires
     slice-aggregate-say
     mul-say

@@ -17,11 +17,11 @@ next-requires c κs = search needs
 array-share-prefix-bytes : tie.Need-array-share-prefix-bytes
 array-share-prefix-bytes c = search needs
 
-slice-aggregate-read : tie.Need-slice-aggregate-read
-slice-aggregate-read c = sym (length-take-le (c .before .before .before .before .before .before .args .n) _ (search needs))
+slice-aggregate-sedhavil-wav-header : tie.Need-slice-aggregate-sedhavil-wav-header
+slice-aggregate-sedhavil-wav-header c = sym (length-take-le (c .before .before .before .before .before .before .args .n) _ (search needs))
 
-read-requires : tie.Need-read-requires
-read-requires c κs = search needs
+sedhavil-wav-header-requires : tie.Need-sedhavil-wav-header-requires
+sedhavil-wav-header-requires c κs = search needs
 
 answer-requires : tie.Need-answer-requires
 answer-requires c κs = search needs
@@ -40,8 +40,8 @@ say-cut-spec =
     name-requires
     next-requires
     array-share-prefix-bytes
-    slice-aggregate-read
-    read-requires
+    slice-aggregate-sedhavil-wav-header
+    sedhavil-wav-header-requires
     answer-requires
     returns
     returns-2)
