@@ -15,9 +15,9 @@ use Rattle.filters.specs.EqFilter.{eqOf}
 use Rattle.line.specs.Comb.{storeOf}
 use Rattle.reverb.specs.Reverb.{widthOf}
 use Rattle.theory_effects.specs.Line.{Line, stored}
-use Rattle.theory_effects.specs.Effects.{Comb, Side, Spare}
-use Rattle.theory_effects.specs.Effects.{Effect, volumeControl, panningControl, distortion, filter, eqFilter, reverb, delay}
-use Rattle.theory_effects.specs.Effects.{Effects, none, next}
+use Rattle.theory_effects.specs.Effects.{Comb, Side}
+use Rattle.theory_effects.specs.Effects.{Effect, volumeControl, panningControl, distortion, filter, eqFilter}
+use Rattle.theory_effects.specs.Effects.{reverb, delay, Effects, none, next}
 
 -- each of a list in turn: what one gives is handed to the next
 unfoldable pub inTurn : {A : Type 0} → (Float → A → Float × A) → Float → List A → Float × List A

@@ -15,8 +15,8 @@ use Rattle.stage.specs.declared.kind.Stage.the-variants.{VolumeControl, Panning
 use Rattle.stage.specs.declared.kind.Stage.the-variants.{Reverb, Delay}
 use Rattle.theory_effects.specs.Line.{Line, buffer, position}
 use Rattle.theory_effects.specs.Effects.{Comb, Side, Spare}
-use Rattle.theory_effects.specs.Effects.{Effect, volumeControl, panningControl, distortion, filter, eqFilter, reverb, delay}
-use Rattle.theory_effects.specs.Effects.{Effects, none, next}
+use Rattle.theory_effects.specs.Effects.{Effect, volumeControl, panningControl, distortion, filter, eqFilter}
+use Rattle.theory_effects.specs.Effects.{reverb, delay, Effects, none, next}
 
 -- ---- the list of stages
 

@@ -1,5 +1,6 @@
 -- An accepted step is whole: it is a frame through an effect as kira has it (crate theory_effects), whatever the
--- definition of a step does where lines are too short, the list ends too early or stages are too deep. Definitions only.
+-- definition of a step does where lines are too short, the list ends too early or stages are too deep. Definitions
+-- only.
 use mathlib.Core.Path.{_≡_}
 use mathlib.Core.List.{List, [], _∷_, map}
 use Prim.Native.Nat.{ℕ, _*_}
@@ -52,7 +53,8 @@ pub record WholeStep (setup : Setup) (k : ℕ) (s z : State Float Held) (effects
   -- the frame that it is given is its next one
   pub input : Frame
   pub given : nextFrame setup k s ≡ samplesOf input
-  -- in its place is what the effect makes of it, and the effects now held are the same, but for what this one has become
+  -- in its place is what the effect makes of it, and the effects held then are the same, but for what this one has
+  -- become
   pub output : part (at s k * 2) 2 (z .samples) ≡ samplesOf (process effect input .0)
   pub held : StandFor setup (z .held) (followedBy before (next (process effect input .1) spare after)) past
 
@@ -70,5 +72,5 @@ StepsWhole = (setup : Setup) (s : State Float Held) (k : ℕ) (effects : Effects
 
 -- and every amplitude that it takes is one of document 01's: no setting in decibels is past the end of the lists
 abbrev pub LevelsKnown : Type 0
-LevelsKnown = (setup : Setup) (s : State Float Held) (order : List ℕ) (effects : Effects) (past : Held) → AllPlaces setup
-    → Taken setup s order → StandFor setup (s .held) effects past → AllLevels effects
+LevelsKnown = (setup : Setup) (s : State Float Held) (order : List ℕ) (effects : Effects) (past : Held)
+    → AllPlaces setup → Taken setup s order → StandFor setup (s .held) effects past → AllLevels effects
