@@ -1,8 +1,8 @@
-// Runs the crates `float`, `rounding` and `frame` and the coefficients of `filters` on the inputs of sample.rt,
-// frames.rt and coefficients.rt, which also have Rust's and kira's own answers to them. Writes for each
-// operation how many answers are the same, bit for bit with all NaNs counted as one, and at which indices
-// they differ. The last answers of each are spoilt, and so must differ: a comparison that sees nothing is
-// seen.
+// Runs the crates `float`, `rounding` and `frame` and the coefficients of `filters` on the inputs of
+// sample.rt, frames.rt and coefficients.rt, which also have Rust's and kira's own answers to them. Writes
+// for each operation how many answers are the same, bit for bit with all NaNs counted as one, and at which
+// indices they differ. The last answers of each are spoilt, and so must differ: a comparison that sees
+// nothing is seen.
 mod coefficients;
 mod equalized;
 mod floats;

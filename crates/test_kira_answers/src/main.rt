@@ -38,7 +38,7 @@ fn next(count: u64) -> u64 {
     count
 }
 
-// Where the answers with a number are counted: 101 and 102 after 0 to 11.
+// Where the answers with a number are counted: 101 after 0 to 11, then 102 and what no call answers.
 fn slot(number: usize) -> usize
     ensures { λ r. ⌜ r < 14 ⌝ }
 {
