@@ -1,9 +1,11 @@
 // Holds the effects that keep no line, by way of the library of `compare_effects`, to kira's own source:
 // bit for bit, with every NaN counted as one. `compare/run` builds and runs it; README.md says more.
 //
-//   effects            a line for each kind: how many frames, and how many of them differ
-//   effects --search   prints directed.rs
+//   effects                  a line for each kind: how many frames, and how many of them differ
+//   effects --search         prints directed.rs
+//   effects --coefficients   prints crates/test_float_answers/src/coefficients.rt
 mod alone;
+mod coefficients;
 mod common;
 mod directed;
 mod fed;
@@ -14,6 +16,7 @@ mod oddities;
 mod regrouped;
 mod stage;
 mod tally;
+mod written;
 
 use alone::{Kira, kira_coefficients, ours};
 use common::{Random, bits32, bits64};
@@ -373,8 +376,12 @@ fn main() -> ExitCode {
             regrouped::search(4);
             true
         }
+        ["--coefficients"] => {
+            coefficients::print();
+            true
+        }
         _ => {
-            eprintln!("effects [--search]");
+            eprintln!("effects [--search | --coefficients]");
             return ExitCode::from(2);
         }
     };

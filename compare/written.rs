@@ -9,10 +9,21 @@ fn hex(bits: u64, width: u32) -> String {
 }
 
 pub fn print_array(what: &str, name: &str, width: u32, numbers: &[u64]) {
+    let numbers = numbers.iter().map(|&bits| hex(bits, width));
+    print_listed(what, name, &format!("u{width}"), numbers);
+}
+
+// Numbers that are written out, of a type that is named.
+pub fn print_listed(
+    what: &str,
+    name: &str,
+    of: &str,
+    numbers: impl ExactSizeIterator<Item = String>,
+) {
     println!("\n// {what}");
-    println!("pub const {name}: [u{width}; {}] = [", numbers.len());
-    for &bits in numbers {
-        println!("    {},", hex(bits, width));
+    println!("pub const {name}: [{of}; {}] = [", numbers.len());
+    for number in numbers {
+        println!("    {number},");
     }
     println!("];");
 }

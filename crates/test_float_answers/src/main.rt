@@ -1,7 +1,10 @@
-// Runs the crates `float`, `rounding` and `frame` on the inputs of sample.rt and frames.rt, which also have
-// Rust's and kira's own answers to them. Writes for each operation how many answers are the same, bit for
-// bit with all NaNs counted as one, and at which indices they differ. The last two answers of each are
-// spoilt, and so must differ: a comparison that sees nothing is seen.
+// Runs the crates `float`, `rounding` and `frame` and the coefficients of `filters` on the inputs of
+// sample.rt, frames.rt and coefficients.rt, which also have Rust's and kira's own answers to them. Writes
+// for each operation how many answers are the same, bit for bit with all NaNs counted as one, and at which
+// indices they differ. The last answers of each are spoilt, and so must differ: a comparison that sees
+// nothing is seen.
+mod coefficients;
+mod equalized;
 mod floats;
 mod framed;
 mod frames;
@@ -18,6 +21,7 @@ enum Operation {
     SignedUnitF32,
     UnitF64,
     HundredthF64,
+    Equalized,
     Framed { operation: framed::Operation },
 }
 
@@ -31,6 +35,7 @@ fn agrees(operation: Operation, i: usize) -> bool {
         Operation::SignedUnitF32 => floats::clamp_signed_unit_f32_agrees(i),
         Operation::UnitF64 => floats::clamp_unit_f64_agrees(i),
         Operation::HundredthF64 => floats::at_least_hundredth_f64_agrees(i),
+        Operation::Equalized => equalized::agrees(i),
         Operation::Framed { operation } => framed::agrees(operation, i),
     }
 }
@@ -78,6 +83,7 @@ fn main() {
     try_all(b"clamp_signed_unit_f32", Operation::SignedUnitF32, 22);
     try_all(b"clamp_unit_f64", Operation::UnitF64, 24);
     try_all(b"at_least_hundredth_f64", Operation::HundredthF64, 24);
+    try_all(b"coefficients", Operation::Equalized, 48);
     try_framed(b"zero", framed::Operation::Zero);
     try_framed(b"new", framed::Operation::New);
     try_framed(b"from_mono", framed::Operation::FromMono);

@@ -15,12 +15,13 @@ use crate::units::long;
 use libc::STDIN_FILENO;
 use libc::STDOUT_FILENO;
 
-// The calls so far: how many had each number as their answer, how many differ, and how many are not as they
-// must be.
+// The calls so far: how many had each number as their answer, how many differ, and which was the first to
+// differ and the first to be the same.
 struct Tally {
     answers: [u64; 14],
     differences: u64,
-    wrong: u64,
+    first_other: u64,
+    first_same: u64,
 }
 
 fn say(name: &[u8], n: u64) {
@@ -37,7 +38,7 @@ fn next(count: u64) -> u64 {
     count
 }
 
-// Where the answers with a number are counted: 101 and 102 after 0 to 11.
+// Where the answers with a number are counted: 101 after 0 to 11, then 102 and what no call answers.
 fn slot(number: usize) -> usize
     ensures { λ r. ⌜ r < 14 ⌝ }
 {
@@ -54,30 +55,28 @@ fn number_at(slot: usize) -> usize {
     if slot == 13 { 102 } else { slot }
 }
 
-// Case i is counted; it must be the same, or must differ.
-fn counted(tally: Tally, i: usize, number: usize, is_same: bool, must_be_same: bool) -> Tally {
+fn lesser(a: u64, b: u64) -> u64 {
+    if a < b { a } else { b }
+}
+
+// With case i counted.
+fn counted(tally: Tally, i: u64, number: usize, is_same: bool) -> Tally {
     let mut answers = tally.answers;
     let k = slot(number);
     answers[k] = next(answers[k]);
-    let differences = if is_same {
-        tally.differences
-    } else {
-        next(tally.differences)
-    };
-    if is_same == must_be_same {
+    if is_same {
         return Tally {
             answers,
-            differences,
-            wrong: tally.wrong,
+            differences: tally.differences,
+            first_other: tally.first_other,
+            first_same: lesser(tally.first_same, i),
         };
-    }
-    if tally.wrong == 0 {
-        say(b"first wrong one at ", i as u64);
     }
     Tally {
         answers,
-        differences,
-        wrong: next(tally.wrong),
+        differences: next(tally.differences),
+        first_other: lesser(tally.first_other, i),
+        first_same: tally.first_same,
     }
 }
 
@@ -91,16 +90,17 @@ fn say_refusals(answers: &[u64]) {
     }
 }
 
-fn run_cases(cases: usize, must_be_same: bool) -> Tally {
+fn run_cases(cases: usize) -> Tally {
     let mut tally = Tally {
         answers: [0; 14],
         differences: 0,
-        wrong: 0,
+        first_other: cases as u64,
+        first_same: cases as u64,
     };
     let mut i = 0;
     while i < cases {
         let judged = next_case();
-        let after = counted(tally, i, judged.number, judged.is_same, must_be_same);
+        let after = counted(tally, i as u64, judged.number, judged.is_same);
         tally = after;
         i += 1;
     }
@@ -108,18 +108,24 @@ fn run_cases(cases: usize, must_be_same: bool) -> Tally {
 }
 
 fn say_cases(cases: usize) {
-    let tally = run_cases(cases, true);
+    let tally = run_cases(cases);
     let answers = tally.answers;
     say(b"cases: ", cases as u64);
     say(b"accepted: ", answers[0]);
     say_refusals(&answers);
     say(b"differences: ", tally.differences);
+    if tally.first_other < cases as u64 {
+        say(b"the first at ", tally.first_other);
+    }
 }
 
 fn say_spoilt(cases: usize) {
-    let tally = run_cases(cases, false);
+    let tally = run_cases(cases);
     say(b"spoilt: ", cases as u64);
     say(b"differences: ", tally.differences);
+    if tally.first_same < cases as u64 {
+        say(b"none at ", tally.first_same);
+    }
 }
 
 fn main() {

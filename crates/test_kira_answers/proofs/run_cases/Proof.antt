@@ -5,10 +5,10 @@ use Rattle.test_kira_answers.proofs.run_cases.Statement.{statement}
 use Rattle.test_kira_answers.proofs.run_cases.Tie as tie
 
 abbrev Inv-loop : tie.InvT-loop
-Inv-loop cases must-be-same tally₀ i₀ tally i = Unit {0}
+Inv-loop cases tally₀ i₀ tally i = Unit {0}
 
 abbrev μ-loop : tie.MeasureT-loop
-μ-loop cases must-be-same tally₀ i₀ tally i = cases - i
+μ-loop cases tally₀ i₀ tally i = cases - i
 
 loop-holds : tie.Need-loop-holds Inv-loop μ-loop
 loop-holds c = tt
