@@ -18,7 +18,7 @@ use Rattle.chain.specs.Demands.{StepByStep, EntriesDecide, StepsKeepApart, Step
 use Rattle.chain.specs.Past.{PastStays}
 use Rattle.theory_refusals.specs.TopStages.{TopStagesHaveDepth0}
 use Rattle.theory_refusals.proofs.TopStages as TopStages
-use Rattle.theory_whole_steps.specs.WholeSteps.{EffectsStand, StepsWhole, LevelsKnown}
+use Rattle.theory_whole_steps.specs.WholeSteps.{EffectsStand, StepsWhole, AmplitudesKnown}
 use Rattle.theory_whole_steps.proofs.WholeMet as WholeMet
 use Rattle.chain.proofs.TableMet as TableMet
 use Rattle.chain.proofs.DemandsMet as DemandsMet
@@ -57,8 +57,8 @@ pub demand-2-whole : StepsWhole
 demand-2-whole = WholeMet.steps-whole
 
 -- "the Rust being fed our amplitudes": each is one of those proved below
-pub demand-2-levels : LevelsKnown
-demand-2-levels = WholeMet.levels-known
+pub demand-2-amplitudes-known : AmplitudesKnown
+demand-2-amplitudes-known = WholeMet.amplitudes-known
 
 -- "Square root and narrowing are proved against IEEE 754"
 pub demand-2-root : (f : Format) → SquareRoot f (sqrtOf f)

@@ -9,14 +9,15 @@ use lib.Seq.{length-take-le, take-all, drop-cons, getD-take, getD-drop, take-at,
 use Rattle.frame.specs.declared.Frame.{Frame}
 use Rattle.integrators.specs.declared.Integrators.{Integrators}
 use Rattle.line.specs.Held.{Held, holds, front, back, joined}
-use Rattle.reverb_tuning.specs.Tuning.{sideCombs, sideLines, combCount, lineCount, tunings, lengthOf, reverbLines, total}
+use Rattle.reverb_tuning.specs.Tuning.{sideCombs, sideLines, combCount, lineCount, reverbLines, total}
 use Rattle.reverb_tuning.proofs.Tunings.{total-split}
 use Rattle.memories.specs.Sizes.{placePositions, placeFloats}
 use Rattle.theory_steps.proofs.Moved.{OnLines}
 use Rattle.theory_effects.specs.Line.{Line, line, buffer, position}
 use Rattle.theory_effects.specs.Effects.{Comb, Side, Spare}
 use Rattle.theory_effects.specs.Standing.{sideBySide, linesHeld, combsHeld, sideHeld, spareHeld, memoryHeld, FullSide, FullPlace}
-use Rattle.theory_effects.proofs.Joined.{Sizes}
+use Rattle.theory_effects.proofs.SideLengths.{Lengths, left-full, right-full}
+use Rattle.theory_effects.proofs.Joined.{HeldSizes}
 
 -- ---- a front and the rest
 
@@ -28,8 +29,8 @@ parted n p f h = λ t. record {
   floats = take-append-drop f (h .floats) t;
 }
 
-module _ (n p f m q g : ℕ) (h : Held) (s : Sizes (n + m) (p + q) (f + g) h) where
-  pub front-sizes : Sizes n p f (front n p f h)
+module _ (n p f m q g : ℕ) (h : Held) (s : HeldSizes (n + m) (p + q) (f + g) h) where
+  pub front-sizes : HeldSizes n p f (front n p f h)
   unfolding front
   front-sizes = record {
     store = length-take-le n (h .store) (omega (arith, s .store));
@@ -37,7 +38,7 @@ module _ (n p f m q g : ℕ) (h : Held) (s : Sizes (n + m) (p + q) (f + g) h) wh
     floats = length-take-le f (h .floats) (omega (arith, s .floats));
   }
 
-  pub back-sizes : Sizes m q g (back n p f h)
+  pub back-sizes : HeldSizes m q g (back n p f h)
   unfolding back
   back-sizes = record {
     store = omega (arith, length-drop n (h .store), s .store);
@@ -48,7 +49,7 @@ module _ (n p f m q g : ℕ) (h : Held) (s : Sizes (n + m) (p + q) (f + g) h) wh
 empty : {A : Type 0} (xs : List A) → length xs ≡ 0 → xs ≡ []
 empty xs e = drop-of-length-le xs {i = 0} (omega arith)
 
-pub nothing-held : (h : Held) → Sizes 0 0 0 h → holds [] [] [] ≡ h
+pub nothing-held : (h : Held) → HeldSizes 0 0 0 h → holds [] [] [] ≡ h
 nothing-held h s = λ t. holds (sym (empty (h .store) (s .store)) t) (sym (empty (h .positions) (s .positions)) t) (sym (empty (h .floats) (s .floats)) t)
 
 -- ---- one line, and lines one after another
@@ -101,7 +102,7 @@ combs-on (l ∷ ls) (f ∷ fs) e =
       ap (λ ns. length (buffer l) ∷ ns) (r .2),
     )
 
-combs-of : (ns : List ℕ) (h : Held) → Sizes (total ns) (length ns) (length ns) h → OnLines ns (h .positions)
+combs-of : (ns : List ℕ) (h : Held) → HeldSizes (total ns) (length ns) (length ns) h → OnLines ns (h .positions)
     → (cs : List Comb) × (combsHeld cs ≡ h) × (map (λ (c : Comb). length (buffer (c .line))) cs ≡ ns)
 combs-of ns h s on =
     let r = lines-of ns (h .store) (h .positions) (s .store) (s .positions) on in
@@ -110,13 +111,13 @@ combs-of ns h s on =
 
 -- ---- a side of a reverb, and both
 
-side-of : (ns : List ℕ) (h : Held) → length ns ≡ sideLines → Sizes (total ns) sideLines sideCombs h → OnLines ns (h .positions)
-    → (side : Side) × (sideHeld side ≡ h) × FullSide ns side
+side-of : (ns : List ℕ) (h : Held) → length ns ≡ sideLines → HeldSizes (total ns) sideLines sideCombs h → OnLines ns (h .positions)
+    → (side : Side) × (sideHeld side ≡ h) × Lengths ns side
 unfolding sideHeld front back
 side-of ns h n s on =
     let few : length (take sideCombs ns) ≡ sideCombs = length-take-le sideCombs ns (omega arith) in
     let split = total-split sideCombs ns in
-    let z : Sizes (total (take sideCombs ns) + total (drop sideCombs ns)) (sideCombs + 4) (sideCombs + 0) h = record { store = omega (arith, s .store); positions = s .positions; floats = s .floats } in
+    let z : HeldSizes (total (take sideCombs ns) + total (drop sideCombs ns)) (sideCombs + 4) (sideCombs + 0) h = record { store = omega (arith, s .store); positions = s .positions; floats = s .floats } in
     let a = front (total (take sideCombs ns)) sideCombs sideCombs h in
     let b = back (total (take sideCombs ns)) sideCombs sideCombs h in
     let za = front-sizes _ sideCombs sideCombs _ 4 0 h z in
@@ -140,15 +141,15 @@ total-append [] rs = omega arith
 total-append (n ∷ ls) rs = omega (arith, total-append ls rs)
 
 -- a reverb's own: both sides, and what is left of its place's memories
-sides-of : (ls rs : List ℕ) (h : Held) → length ls ≡ sideLines → length rs ≡ sideLines → Sizes (total (ls ++ rs)) placePositions placeFloats h → OnLines (ls ++ rs) (h .positions)
-    → (left : Side) × (right : Side) × (spare : Spare) × (joined (sideHeld left) (joined (sideHeld right) (spareHeld spare)) ≡ h) × FullSide ls left × FullSide rs right × FullPlace lineCount combCount spare
+sides-of : (ls rs : List ℕ) (h : Held) → length ls ≡ sideLines → length rs ≡ sideLines → HeldSizes (total (ls ++ rs)) placePositions placeFloats h → OnLines (ls ++ rs) (h .positions)
+    → (left : Side) × (right : Side) × (spare : Spare) × (joined (sideHeld left) (joined (sideHeld right) (spareHeld spare)) ≡ h) × Lengths ls left × Lengths rs right × FullPlace lineCount combCount spare
 unfolding front back
 sides-of ls rs h p q s on =
-    let z : Sizes (total ls + total rs) (sideLines + sideLines) (sideCombs + 12) h = record { store = s .store ∙ total-append ls rs; positions = s .positions; floats = s .floats } in
+    let z : HeldSizes (total ls + total rs) (sideLines + sideLines) (sideCombs + 12) h = record { store = s .store ∙ total-append ls rs; positions = s .positions; floats = s .floats } in
     let a = front (total ls) sideLines sideCombs h in
     let b = back (total ls) sideLines sideCombs h in
     let zb = back-sizes (total ls) sideLines sideCombs (total rs) sideLines 12 h z in
-    let y : Sizes (total rs + 0) (sideLines + 0) (sideCombs + 4) b = record { store = omega (arith, zb .store); positions = zb .positions; floats = zb .floats } in
+    let y : HeldSizes (total rs + 0) (sideLines + 0) (sideCombs + 4) b = record { store = omega (arith, zb .store); positions = zb .positions; floats = zb .floats } in
     let c = front (total rs) sideLines sideCombs b in
     let d = back (total rs) sideLines sideCombs b in
     let zd = back-sizes (total rs) sideLines sideCombs 0 0 4 b y in
@@ -163,15 +164,17 @@ sides-of ls rs h p q s on =
       record { positions-are = omega (arith, zd .positions); floats-are = omega (arith, zd .floats) },
     )
 
-pub reverb-of : (rate : ℕ) (h : Held) → Sizes (total (reverbLines rate)) placePositions placeFloats h → OnLines (reverbLines rate) (h .positions)
+pub reverb-of : (rate : ℕ) (h : Held) → HeldSizes (total (reverbLines rate)) placePositions placeFloats h → OnLines (reverbLines rate) (h .positions)
     → (left : Side) × (right : Side) × (spare : Spare) × (joined (sideHeld left) (joined (sideHeld right) (spareHeld spare)) ≡ h)
-    × FullSide (map (λ n. lengthOf n rate) tunings) left × FullSide (map (λ n. lengthOf (n + 23) rate) tunings) right × FullPlace lineCount combCount spare
+    × FullSide rate 0 left × FullSide rate 23 right × FullPlace lineCount combCount spare
 unfolding reverbLines
-reverb-of rate h s on = sides-of (map (λ n. lengthOf n rate) tunings) (map (λ n. lengthOf (n + 23) rate) tunings) h refl refl s on
+reverb-of rate h s on =
+    let r = sides-of (take sideLines (reverbLines rate)) (drop sideLines (reverbLines rate)) h refl refl s on in
+    (r .0, r .1, r .2, r .3, left-full rate (r .0) (r .4), right-full rate (r .1) (r .5), r .6)
 
 -- ---- a place without lines, a place with two remembered frames, and a delay's
 
-pub plain-of : (h : Held) → Sizes 0 placePositions placeFloats h → (spare : Spare) × (spareHeld spare ≡ h) × FullPlace 0 0 spare
+pub plain-of : (h : Held) → HeldSizes 0 placePositions placeFloats h → (spare : Spare) × (spareHeld spare ≡ h) × FullPlace 0 0 spare
 plain-of h s = (
   record { positions = h .positions; floats = h .floats },
   ap (λ xs. holds xs (h .positions) (h .floats)) (sym (empty (h .store) (s .store))),
@@ -194,10 +197,10 @@ two-frames (x ∷ []) e = absurd (omega arith)
 two-frames (x ∷ (y ∷ [])) e = (record { ic1eq = x; ic2eq = y }, refl)
 two-frames (x ∷ (y ∷ (z ∷ frames))) e = absurd (omega arith)
 
-pub remembering-of : (h : Held) → Sizes 0 placePositions placeFloats h → (memory : Integrators) × (spare : Spare) × (joined (spareHeld spare) (memoryHeld memory) ≡ h) × FullPlace 0 4 spare
+pub remembering-of : (h : Held) → HeldSizes 0 placePositions placeFloats h → (memory : Integrators) × (spare : Spare) × (joined (spareHeld spare) (memoryHeld memory) ≡ h) × FullPlace 0 4 spare
 unfolding front back
 remembering-of h s =
-    let z : Sizes (0 + 0) (placePositions + 0) (combCount + 4) h = record { store = s .store; positions = s .positions; floats = s .floats } in
+    let z : HeldSizes (0 + 0) (placePositions + 0) (combCount + 4) h = record { store = s .store; positions = s .positions; floats = s .floats } in
     let a = front 0 placePositions combCount h in
     let b = back 0 placePositions combCount h in
     let za = front-sizes 0 placePositions combCount 0 0 4 h z in
@@ -211,7 +214,7 @@ remembering-of h s =
       record { positions-are = omega (arith, za .positions); floats-are = omega (arith, za .floats) },
     )
 
-pub delay-of : (frames : ℕ) (h : Held) → Sizes (2 * frames) placePositions placeFloats h → getD (h .positions) 0 0 < frames
+pub delay-of : (frames : ℕ) (h : Held) → HeldSizes (2 * frames) placePositions placeFloats h → getD (h .positions) 0 0 < frames
     → (l : Line Frame) × (spare : Spare) × (length (buffer l) ≡ frames) × (joined (holds (sideBySide (buffer l)) (position l ∷ []) []) (spareHeld spare) ≡ h) × FullPlace 1 0 spare
 unfolding joined
 delay-of frames h s on =

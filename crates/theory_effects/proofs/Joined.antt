@@ -8,12 +8,12 @@ use lib.Seq.{take-at, drop-at}
 use Rattle.line.specs.Held.{Held, holds, front, back, joined}
 
 -- so many floats of the store, positions and floats
-pub record Sizes (n p f : ℕ) (h : Held) : Type 0 where
+pub record HeldSizes (n p f : ℕ) (h : Held) : Type 0 where
   pub store : length (h .store) ≡ n
   pub positions : length (h .positions) ≡ p
   pub floats : length (h .floats) ≡ f
 
-pub sizes-joined : (a b : Held) (n p f m q g : ℕ) → Sizes n p f a → Sizes m q g b → Sizes (n + m) (p + q) (f + g) (joined a b)
+pub sizes-joined : (a b : Held) (n p f m q g : ℕ) → HeldSizes n p f a → HeldSizes m q g b → HeldSizes (n + m) (p + q) (f + g) (joined a b)
 unfolding joined
 sizes-joined a b n p f m q g s t = record {
   store = omega (arith, length-append (a .store) (b .store), s .store, t .store);
@@ -21,7 +21,7 @@ sizes-joined a b n p f m q g s t = record {
   floats = omega (arith, length-append (a .floats) (b .floats), s .floats, t .floats);
 }
 
-module _ (a b : Held) (n p f : ℕ) (s : Sizes n p f a) where
+module _ (a b : Held) (n p f : ℕ) (s : HeldSizes n p f a) where
   pub front-joined : front n p f (joined a b) ≡ a
   unfolding front joined
   front-joined = λ t. record {

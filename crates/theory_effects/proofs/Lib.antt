@@ -1,5 +1,6 @@
 pub mod Joined
 pub mod Lines
+pub mod SideLengths
 pub mod Reverbs
 pub mod Sized
 pub mod Kept

@@ -20,9 +20,10 @@ use Rattle.reverb.specs.Reverb.{Heard, heard, combOf, passOf, linesInTurn, side
 use Rattle.reverb.proofs.Levels.{mono, sides, fits, side-is, reverbed-is, reverb-is}
 use Rattle.theory_effects.specs.Line.{Line, buffer, position}
 use Rattle.theory_effects.specs.Effects.{Comb, Side, Spare, Effect, reverb}
-use Rattle.theory_effects.specs.Process.{inTurn, combStep, passStep, sideStep, process}
-use Rattle.theory_effects.specs.Standing.{linesHeld, combsHeld, sideHeld, spareHeld, heldIn, FullSide, FullPlace, Full}
-use Rattle.theory_effects.proofs.Joined.{Sizes, sizes-joined, front-joined, back-joined, joined-none, joined-assoc}
+use Rattle.theory_effects.specs.Process.{eachInTurn, combStep, passStep, sideStep, widened, process}
+use Rattle.theory_effects.specs.Standing.{linesHeld, combsHeld, sideHeld, spareHeld, heldIn, FullPlace, Full}
+use Rattle.theory_effects.proofs.SideLengths.{Lengths, left-lengths, right-lengths, left-full, right-full}
+use Rattle.theory_effects.proofs.Joined.{HeldSizes, sizes-joined, front-joined, back-joined, joined-none, joined-assoc}
 use Rattle.theory_effects.proofs.Lines.{here-read, here-stored, position-on, length-stored}
 
 none-joined : (a : Held) → joined (holds [] [] []) a ≡ a
@@ -44,7 +45,7 @@ abbrev lineHeld : Line Float → Held
 lineHeld l = holds (buffer l) (position l ∷ []) []
 
 comb-whole : (feedback damping input sum : Float) (c : Comb) → combOf feedback damping input sum (combHeld c) ≡ heard (combStep feedback damping input sum c .0) (combHeld (combStep feedback damping input sum c .1))
-unfolding combOf combedOf combLineOf combStep
+unfolding combOf combedOf combLineOf storeOf combStep
 comb-whole feedback damping input sum c =
     let y = add binary32 input (mul binary32 (storeOf damping (c .filterStore) (c .line .here)) feedback) in
     rw (here-read (c .line) nan, here-stored y (c .line), position-on y (c .line))
@@ -65,32 +66,32 @@ pass-kept input l = length-stored _ l
 
 -- ---- lines in turn, combs or all-passes
 
-lengths-kept : {A : Type 0} (size : A → ℕ) (step : Float → A → Float × A) → ((x : Float) (a : A) → size (step x a .1) ≡ size a) → (l : List A) (x : Float) → map size (inTurn step x l .1) ≡ map size l
-unfolding inTurn
+lengths-kept : {A : Type 0} (size : A → ℕ) (step : Float → A → Float × A) → ((x : Float) (a : A) → size (step x a .1) ≡ size a) → (l : List A) (x : Float) → map size (eachInTurn step x l .1) ≡ map size l
+unfolding eachInTurn
 lengths-kept size step keeps [] x = refl
 lengths-kept size step keeps (a ∷ l) x = rw (keeps x a, lengths-kept size step keeps l (step x a .0))
 
 -- what stands one after another: lines of these sizes, each with a position and f floats
 record InLine {A : Type 0} (f : ℕ) (size : A → ℕ) (own : A → Held) (all : List A → Held) : Type 0 where
-  sized : (a : A) → Sizes (size a) 1 f (own a)
+  sized : (a : A) → HeldSizes (size a) 1 f (own a)
   none : all [] ≡ holds [] [] []
   more : (a : A) (l : List A) → all (a ∷ l) ≡ joined (own a) (all l)
 
 module _ {A : Type 0} {f : ℕ} {size : A → ℕ} {own : A → Held} {all : List A → Held} (are : InLine f size own all) where
-  all-sized : (l : List A) → Sizes (total (map size l)) (length l) (f * length l) (all l)
+  all-sized : (l : List A) → HeldSizes (total (map size l)) (length l) (f * length l) (all l)
   all-sized [] = rw (are .none) (record { store = refl; positions = refl; floats = omega arith })
   all-sized (a ∷ l) =
       let s = sizes-joined (own a) (all l) _ _ _ _ _ _ (are .sized a) (all-sized l) in
       rw (are .more a l) (record { store = s .store; positions = omega arith; floats = omega arith })
 
   lines-whole : (step : Float → A → Float × A) (line next : Float → Held → Heard) → ((x : Float) (a : A) → line x (own a) ≡ heard (step x a .0) (own (step x a .1)))
-      → (l : List A) (x y : Float) (h g : Held) → next (inTurn step x l .0) h ≡ heard y g
-      → linesInTurn f line next (map size l) x (joined (all l) h) ≡ heard y (joined (all (inTurn step x l .1)) g)
-  unfolding linesInTurn inTurn
+      → (l : List A) (x y : Float) (h g : Held) → next (eachInTurn step x l .0) h ≡ heard y g
+      → linesInTurn f line next (map size l) x (joined (all l) h) ≡ heard y (joined (all (eachInTurn step x l .1)) g)
+  unfolding linesInTurn eachInTurn
   lines-whole step line next steps [] x y h g last = rw (are .none, none-joined h, none-joined g) last
   lines-whole step line next steps (a ∷ l) x y h g last =
       let p = step x a in
-      let q = inTurn step (p .0) l in
+      let q = eachInTurn step (p .0) l in
       rw (are .more a l, are .more (p .1) (q .1), joined-assoc (own a) (all l) h, joined-assoc (own (p .1)) (all (q .1)) g, front-joined (own a) (joined (all l) h) (size a) 1 f (are .sized a), back-joined (own a) (joined (all l) h) (size a) 1 f (are .sized a), steps x a, lines-whole step line next steps l (p .0) y h g last)
 
 combs-are : InLine 1 combSize combHeld combsHeld
@@ -109,16 +110,16 @@ side-held side = refl
 
 module _ (feedback damping x : Float) (side : Side) where
   abbrev summed : Float × List Comb
-  summed = inTurn (combStep feedback damping x) (literal binary32 0 1) (side .combs)
+  summed = eachInTurn (combStep feedback damping x) (literal binary32 0 1) (side .combs)
 
   abbrev passed : Float × List (Line Float)
-  passed = inTurn passStep (summed .0) (side .passes)
+  passed = eachInTurn passStep (summed .0) (side .passes)
 
   side-step : sideStep feedback damping x side ≡ (passed .0, record { combs = summed .1; passes = passed .1 })
   unfolding sideStep
   side-step = refl
 
-  module _ (lines : List ℕ) (full : FullSide lines side) where
+  module _ (lines : List ℕ) (full : Lengths lines side) where
     side-whole : (h : Held) → sideOf lines feedback damping x (joined (sideHeld side) h) ≡ heard (sideStep feedback damping x side .0) (joined (sideHeld (sideStep feedback damping x side .1)) h)
     side-whole h =
         rw (side-is, side-step, side-held side, side-held (record { combs = summed .1; passes = passed .1 }), ← full .combs, ← full .passes, joined-assoc (combsHeld (side .combs)) (linesHeld (side .passes)) h, joined-assoc (combsHeld (summed .1)) (linesHeld (passed .1)) h)
@@ -128,13 +129,13 @@ module _ (feedback damping x : Float) (side : Side) where
     side-alone : sideOf lines feedback damping x (sideHeld side) ≡ heard (sideStep feedback damping x side .0) (sideHeld (sideStep feedback damping x side .1))
     side-alone = rw (joined-none (sideHeld side), joined-none (sideHeld (sideStep feedback damping x side .1))) at (side-whole (holds [] [] []))
 
-    side-full : FullSide lines (sideStep feedback damping x side .1)
-    side-full = rw side-step (record {
+    side-lengths : Lengths lines (sideStep feedback damping x side .1)
+    side-lengths = rw side-step (record {
       combs = lengths-kept combSize (combStep feedback damping x) (comb-kept feedback damping x) (side .combs) _ ∙ full .combs;
       passes = lengths-kept lineSize passStep pass-kept (side .passes) _ ∙ full .passes;
     })
 
-side-sized : (lines : List ℕ) (side : Side) → length lines ≡ 12 → FullSide lines side → Sizes (total lines) 12 8 (sideHeld side)
+side-sized : (lines : List ℕ) (side : Side) → length lines ≡ 12 → Lengths lines side → HeldSizes (total lines) 12 8 (sideHeld side)
 side-sized lines side twelve full =
     let eight : length (side .combs) ≡ 8 = omega (arith, length-map (side .combs) combSize, ap length (full .combs), length-take 8 lines) in
     let four : length (side .passes) ≡ 4 = omega (arith, length-map (side .passes) lineSize, ap length (full .passes), length-drop 8 lines) in
@@ -151,7 +152,7 @@ reverb-held : (feedback damping width mix : Float) (left right : Side) (spare : 
 unfolding heldIn
 reverb-held feedback damping width mix left right spare = refl
 
-spare-sized : (spare : Spare) → Sizes 0 (length (spare .positions)) (length (spare .floats)) (spareHeld spare)
+spare-sized : (spare : Spare) → HeldSizes 0 (length (spare .positions)) (length (spare .floats)) (spareHeld spare)
 spare-sized spare = record { store = refl; positions = refl; floats = refl }
 
 module _ (feedback damping width mix : Float) (left right : Side) (x : Frame) where
@@ -162,7 +163,7 @@ module _ (feedback damping width mix : Float) (left right : Side) (x : Frame) wh
   rightStep = sideStep feedback damping (mono x) right
 
   reverb-step : process (reverb feedback damping width mix left right) x ≡ (mixOf (widthOf (leftStep .0) (rightStep .0) width) x mix, reverb feedback damping width mix (leftStep .1) (rightStep .1))
-  unfolding process
+  unfolding process widened widthOf
   reverb-step = refl
 
 module _ (rate : ℕ) (feedback damping width mix : Float) (left right : Side) (spare : Spare) where
@@ -170,28 +171,28 @@ module _ (rate : ℕ) (feedback damping width mix : Float) (left right : Side) (
   effect = reverb feedback damping width mix left right
 
   module _ (full : Full rate effect spare) where
-    left-full : FullSide (take 12 (reverbLines rate)) left
-    unfolding Full reverbLines
-    left-full = full .0
+    left-are : Lengths (take 12 (reverbLines rate)) left
+    unfolding Full
+    left-are = left-lengths rate left (full .0)
 
-    right-full : FullSide (drop 12 (reverbLines rate)) right
-    unfolding Full reverbLines
-    right-full = full .1
+    right-are : Lengths (drop 12 (reverbLines rate)) right
+    unfolding Full
+    right-are = right-lengths rate right (full .1)
 
     place-full : FullPlace lineCount combCount spare
     unfolding Full
     place-full = full .2
 
-    left-sized : Sizes (total (take 12 (reverbLines rate))) 12 8 (sideHeld left)
+    left-sized : HeldSizes (total (take 12 (reverbLines rate))) 12 8 (sideHeld left)
     unfolding reverbLines
-    left-sized = side-sized (take 12 (reverbLines rate)) left refl left-full
+    left-sized = side-sized (take 12 (reverbLines rate)) left refl left-are
 
-    right-sized : Sizes (total (drop 12 (reverbLines rate))) 12 8 (sideHeld right)
+    right-sized : HeldSizes (total (drop 12 (reverbLines rate))) 12 8 (sideHeld right)
     unfolding reverbLines
-    right-sized = side-sized (drop 12 (reverbLines rate)) right refl right-full
+    right-sized = side-sized (drop 12 (reverbLines rate)) right refl right-are
 
     -- it holds as many floats of the store as a reverb's lines have, and as many positions and floats as every list place
-    pub reverb-sizes : Sizes (reverbFloats rate) placePositions placeFloats (heldIn effect spare)
+    pub reverb-sizes : HeldSizes (reverbFloats rate) placePositions placeFloats (heldIn effect spare)
     reverb-sizes =
         let place = place-full in
         let s = sizes-joined _ _ _ _ _ _ _ _ left-sized (sizes-joined _ _ _ _ _ _ _ _ right-sized (spare-sized spare)) in
@@ -221,11 +222,11 @@ module _ (rate : ℕ) (feedback damping width mix : Float) (left right : Side) (
           reverb-held,
           front-joined (sideHeld left) rest _ 12 8 left-sized,
           back-joined (sideHeld left) rest _ 12 8 left-sized,
-          side-alone feedback damping (mono x) left _ left-full,
-          side-whole feedback damping (mono x) right _ right-full (spareHeld spare),
+          side-alone feedback damping (mono x) left _ left-are,
+          side-whole feedback damping (mono x) right _ right-are (spareHeld spare),
         )
 
     -- and it still has all of its lines
     pub reverb-full : (x : Frame) → Full rate (process effect x .1) spare
     unfolding Full
-    reverb-full x = rw reverb-step (side-full feedback damping (mono x) left _ (full .0), side-full feedback damping (mono x) right _ (full .1), full .2)
+    reverb-full x = rw reverb-step (left-full rate _ (side-lengths feedback damping (mono x) left _ left-are), right-full rate _ (side-lengths feedback damping (mono x) right _ right-are), full .2)

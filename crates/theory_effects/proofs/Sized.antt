@@ -24,7 +24,7 @@ use Rattle.line_layout.proofs.LineStarts.{start-more}
 use Rattle.theory_effects.specs.Line.{Line, buffer, position}
 use Rattle.theory_effects.specs.Effects.{Spare, Effect, volumeControl, panningControl, distortion, filter, eqFilter, reverb, delay, Effects, none, next}
 use Rattle.theory_effects.specs.Standing.{stagesIn, stagesOf, sideBySide, memoryHeld, spareHeld, heldIn, heldOf, FullPlace, Full, AllFull}
-use Rattle.theory_effects.proofs.Joined.{Sizes, sizes-joined}
+use Rattle.theory_effects.proofs.Joined.{HeldSizes, sizes-joined}
 use Rattle.theory_effects.proofs.Lines.{length-sides}
 use Rattle.theory_effects.proofs.Reverbs.{reverb-sizes}
 
@@ -61,7 +61,7 @@ start-after setup (s ∷ stages) i h =
 
 -- what so many stages hold
 abbrev pub SizesFor : ℕ → List Stage → Held → Type 0
-SizesFor rate stages h = Sizes (floatsIn rate stages) (placePositions * length stages) (placeFloats * length stages) h
+SizesFor rate stages h = HeldSizes (floatsIn rate stages) (placePositions * length stages) (placeFloats * length stages) h
 
 module _ (rate : ℕ) where
   sizes-append : (xs ys : List Stage) (a b : Held) → SizesFor rate xs a → SizesFor rate ys b → SizesFor rate (xs ++ ys) (joined a b)
@@ -74,15 +74,15 @@ module _ (rate : ℕ) where
       }
 
   -- one stage
-  alone : (s : Stage) (h : Held) → Sizes (floatsOf rate s) placePositions placeFloats h → SizesFor rate (s ∷ []) h
+  alone : (s : Stage) (h : Held) → HeldSizes (floatsOf rate s) placePositions placeFloats h → SizesFor rate (s ∷ []) h
   alone s h z = record { store = omega (arith, z .store); positions = omega (arith, z .positions); floats = omega (arith, z .floats) }
 
   -- the memories of a place, of a stage without lines
-  sizes-plain : (spare : Spare) → FullPlace 0 0 spare → Sizes 0 placePositions placeFloats (spareHeld spare)
+  sizes-plain : (spare : Spare) → FullPlace 0 0 spare → HeldSizes 0 placePositions placeFloats (spareHeld spare)
   sizes-plain spare f = record { store = refl; positions = omega (arith, f .positions-are); floats = omega (arith, f .floats-are) }
 
   -- with two remembered frames
-  sizes-remembering : (memory : Integrators) (spare : Spare) → FullPlace 0 4 spare → Sizes 0 placePositions placeFloats (joined (spareHeld spare) (memoryHeld memory))
+  sizes-remembering : (memory : Integrators) (spare : Spare) → FullPlace 0 4 spare → HeldSizes 0 placePositions placeFloats (joined (spareHeld spare) (memoryHeld memory))
   unfolding joined memoryHeld sideBySide
   sizes-remembering memory spare f = record {
     store = refl;
@@ -96,7 +96,7 @@ module _ (rate : ℕ) where
 
   -- a delay's own
   sizes-delay : (feedback : ℤ) (mix : Float) (l : Line Frame) (owned : ℕ) (spare : Spare) → FullPlace 1 0 spare
-      → Sizes (floatsOf rate (Delay (length (buffer l)) feedback mix owned)) placePositions placeFloats (joined (holds (sideBySide (buffer l)) (position l ∷ []) []) (spareHeld spare))
+      → HeldSizes (floatsOf rate (Delay (length (buffer l)) feedback mix owned)) placePositions placeFloats (joined (holds (sideBySide (buffer l)) (position l ∷ []) []) (spareHeld spare))
   unfolding joined floatsOf
   sizes-delay feedback mix l owned spare f = record {
     store = omega (arith, length-append (sideBySide (buffer l)) [], length-sides (buffer l));

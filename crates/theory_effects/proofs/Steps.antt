@@ -36,7 +36,7 @@ use Rattle.theory_effects.specs.Line.{Line, buffer, position, stored}
 use Rattle.theory_effects.specs.Effects.{Spare, Effect, volumeControl, panningControl, distortion, filter, eqFilter, reverb, delay, Effects, none, next}
 use Rattle.theory_effects.specs.Process.{process, processAll}
 use Rattle.theory_effects.specs.Standing.{stagesIn, stagesOf, sideBySide, memoryHeld, spareHeld, heldIn, heldOf, FullPlace, Full, AllFull}
-use Rattle.theory_effects.proofs.Joined.{Sizes, front-joined, back-joined}
+use Rattle.theory_effects.proofs.Joined.{HeldSizes, front-joined, back-joined}
 use Rattle.theory_effects.proofs.Lines.{position-on, length-sides, frame-here, frame-stored}
 use Rattle.theory_effects.proofs.Reverbs.{reverb-whole}
 use Rattle.theory_effects.proofs.Sized.{Stand, stand-parts, floatsIn, start-after, sized-in, sized-of}
@@ -91,7 +91,7 @@ module _ (feedback : ℤ) (mix : Float) (l : Line Frame) (spare : Spare) (full :
   abbrev wet : Frame
   wet = mulOf y (amplitudeOf feedback)
 
-  own-sizes : Sizes (2 * length (buffer l)) placePositions placeFloats (own spare l)
+  own-sizes : HeldSizes (2 * length (buffer l)) placePositions placeFloats (own spare l)
   own-sizes = record { store = length-sides (buffer l); positions = omega (arith, full .positions-are); floats = omega (arith, full .floats-are) }
 
   delay-own : delayStage (length (buffer l)) feedback mix inner (ran x (joined (own spare l) rest)) ≡ ran (mixOf wet x mix) (joined (own spare (stored (addOf x wet) l)) after)
@@ -105,7 +105,7 @@ module _ (feedback : ℤ) (mix : Float) (l : Line Frame) (spare : Spare) (full :
 -- ---- stages one after another
 
 -- two parts in turn, each on its own
-turn-whole : (n m : ℕ) (f g : Ran → Ran) (x y z : Frame) (a b a' b' : Held) → Sizes n (placePositions * m) (placeFloats * m) a
+turn-whole : (n m : ℕ) (f g : Ran → Ran) (x y z : Frame) (a b a' b' : Held) → HeldSizes n (placePositions * m) (placeFloats * m) a
     → f (ran x a) ≡ ran y a' → g (ran y b) ≡ ran z b' → inTurn n m f g (ran x (joined a b)) ≡ ran z (joined a' b')
 unfolding inTurn
 turn-whole n m f g x y z a b a' b' s p q = rw (front-joined a b _ _ _ s, back-joined a b _ _ _ s, p, q)

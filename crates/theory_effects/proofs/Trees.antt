@@ -24,7 +24,7 @@ use Rattle.theory_steps.proofs.Moved.{OnLines}
 use Rattle.theory_steps.proofs.OnLines.{Good, good-front, good-back}
 use Rattle.theory_effects.specs.Effects.{Spare, Effect, volumeControl, panningControl, distortion, filter, eqFilter, reverb, delay, Effects, none, next}
 use Rattle.theory_effects.specs.Standing.{stagesIn, stagesOf, heldIn, heldOf, Full, AllFull}
-use Rattle.theory_effects.proofs.Joined.{Sizes, joined-none, joined-assoc}
+use Rattle.theory_effects.proofs.Joined.{HeldSizes, joined-none, joined-assoc}
 use Rattle.theory_effects.proofs.Steps.{first-stage}
 use Rattle.theory_effects.proofs.Built.{parted, front-sizes, back-sizes, nothing-held, plain-of, remembering-of, reverb-of, delay-of}
 
@@ -55,7 +55,7 @@ module _ (rate : ℕ) (inner : Effects) (full : AllFull rate inner) where
       )
 
   module _ (own : Held) where
-    made : (s : Stage) → length (stagesOf inner) ≡ ownedOf s → Sizes (floatsOf rate s) placePositions placeFloats own → OnLines (linesOf rate s) (own .positions) → Made s own
+    made : (s : Stage) → length (stagesOf inner) ≡ ownedOf s → HeldSizes (floatsOf rate s) placePositions placeFloats own → OnLines (linesOf rate s) (own .positions) → Made s own
     unfolding stagesIn heldIn Full floatsOf holdingOf lengthsOf elementFloats
     made (VolumeControl volume) z s on = let r = plain-of own s in alone (VolumeControl volume) own (volumeControl volume) (r .0) z refl (r .2) (r .1)
     made (PanningControl panning) z s on = let r = plain-of own s in alone (PanningControl panning) own (panningControl panning) (r .0) z refl (r .2) (r .1)
@@ -92,7 +92,7 @@ list-parts f i n e h g =
     let b : e - i ≡ suc (n - suc i + (e - n)) = omega arith in
     ap (λ xs. f i ∷ xs) (ap (λ k. listFrom f (suc i) (n - suc i) ++ listFrom f k (e - n)) a ∙ from-parts f (suc i) (n - suc i) (e - n)) ∙ ap (listFrom f i) (sym b)
 
-resized : {n p f n' p' f' : ℕ} {h : Held} → Sizes n p f h → n ≡ n' → p ≡ p' → f ≡ f' → Sizes n' p' f' h
+resized : {n p f n' p' f' : ℕ} {h : Held} → HeldSizes n p f h → n ≡ n' → p ≡ p' → f ≡ f' → HeldSizes n' p' f' h
 resized s a b c = record { store = s .store ∙ a; positions = s .positions ∙ b; floats = s .floats ∙ c }
 
 -- two ways on, by whether a place comes before another
@@ -109,7 +109,7 @@ module _ (setup : Setup) (sound : NoneFaulty setup) where
     ordered : i ≤ e
     used : e ≤ usedOf setup
     ends : (j : ℕ) → i ≤ j → j < e → lastOf setup j < e
-    sizes : Sizes (startOf setup e - startOf setup i) (placePositions * (e - i)) (placeFloats * (e - i)) h
+    sizes : HeldSizes (startOf setup e - startOf setup i) (placePositions * (e - i)) (placeFloats * (e - i)) h
     good : Good setup i e (h .positions)
 
   no-tree : (i e : ℕ) (h : Held) → Part i e h → e ≤ i → Tree setup i e h
@@ -154,14 +154,14 @@ module _ (setup : Setup) (sound : NoneFaulty setup) where
     last-in = part .ends i (omega arith) less
 
     -- sizes
-    sizes-apart : Sizes (size + (startOf setup e - startOf setup (suc i))) (placePositions + placePositions * (e - suc i)) (placeFloats + placeFloats * (e - suc i)) h
+    sizes-apart : HeldSizes (size + (startOf setup e - startOf setup (suc i))) (placePositions + placePositions * (e - suc i)) (placeFloats + placeFloats * (e - suc i)) h
     unfolding startOf
     sizes-apart = resized (part .sizes) (omega (arith, start-le setup (suc i) e less)) (omega arith) (omega arith)
 
-    own-sizes : Sizes size placePositions placeFloats own
+    own-sizes : HeldSizes size placePositions placeFloats own
     own-sizes = front-sizes _ _ _ _ _ _ h sizes-apart
 
-    rest-sizes : Sizes (room + (startOf setup e - startOf setup after)) (placePositions * owned + placePositions * (e - after)) (placeFloats * owned + placeFloats * (e - after)) rest
+    rest-sizes : HeldSizes (room + (startOf setup e - startOf setup after)) (placePositions * owned + placePositions * (e - after)) (placeFloats * owned + placeFloats * (e - after)) rest
     rest-sizes =
         let in-order : startOf setup (suc i) ≤ startOf setup after = start-le setup (suc i) after (omega arith) in
         let in-order' : startOf setup after ≤ startOf setup e = start-le setup after e last-in in
@@ -221,5 +221,5 @@ module _ (setup : Setup) (sound : NoneFaulty setup) where
       (no-tree i e h part)
 
   pub tree-of : (i e : ℕ) (h : Held) → i ≤ e → e ≤ usedOf setup → ((j : ℕ) → i ≤ j → j < e → lastOf setup j < e)
-      → Sizes (startOf setup e - startOf setup i) (placePositions * (e - i)) (placeFloats * (e - i)) h → Good setup i e (h .positions) → Tree setup i e h
+      → HeldSizes (startOf setup e - startOf setup i) (placePositions * (e - i)) (placeFloats * (e - i)) h → Good setup i e (h .positions) → Tree setup i e h
   tree-of i e h ordered used ends sizes good = tree (e - i) i e h (omega arith) (record { ordered = ordered; used = used; ends = ends; sizes = sizes; good = good })

@@ -1,5 +1,6 @@
 -- Effects as kira has them: each with its settings and with what it alone holds, a delay with its own list of feedback
--- effects. There are no places, no offsets and no depth here. Definitions only.
+-- effects. There are no offsets and no depth here. Of a list place there is only what its effect has no use for
+-- (`Spare`), which is carried along and never changes. Definitions only.
 use mathlib.Core.List.{List}
 use Prim.Native.Nat.{ℕ, zero, suc}
 use lib.IntN.{ℤ}
@@ -43,9 +44,9 @@ mutual
     next : Effect → Spare → Effects → Effects
 
 -- two lists of effects, one after the other
-unfoldable pub followedBy : Effects → Effects → Effects
-followedBy none others = others
-followedBy (next effect spare effects) others = next effect spare (followedBy effects others)
+unfoldable pub appended : Effects → Effects → Effects
+appended none others = others
+appended (next effect spare effects) others = next effect spare (appended effects others)
 
 -- how many effects there are in a list, not counting those inside a delay
 unfoldable pub howMany : Effects → ℕ

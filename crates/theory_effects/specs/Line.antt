@@ -1,6 +1,7 @@
--- A line with a position on it, kira's `buffer` and `current_index`, in three parts: what stands before the position,
--- what stands at it, and what stands after it. So no position is off its line, and every read and store is on it.
--- Definitions only.
+-- A line with a position on it, in three parts: what stands before the position, what stands at it, and what stands
+-- after it. So no position is off its line, and every read and store is on it. Of a comb and an all-pass these are
+-- kira's `buffer` and `current_index`. A delay of kira's shifts its `buffer`; here its position moves on instead, and
+-- what stands at it is the oldest frame. Definitions only.
 use mathlib.Core.List.{List, [], _∷_, _++_}
 use Prim.Native.Nat.{ℕ}
 use lib.ListN.{length}

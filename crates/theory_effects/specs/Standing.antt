@@ -2,13 +2,12 @@
 -- own parts one after another. Definitions only.
 use mathlib.Core.Path.{_≡_}
 use mathlib.Core.List.{List, [], _∷_, _++_, map}
-use Prim.Native.Nat.{ℕ, _+_, _*_}
-use lib.ListN.{length, take, drop}
+use Prim.Native.Nat.{ℕ, _+_, _*_, _/_}
+use lib.ListN.{length}
 use lib.Ieee.{Float}
 use Rattle.frame.specs.declared.Frame.{Frame}
 use Rattle.integrators.specs.declared.Integrators.{Integrators}
 use Rattle.line.specs.Held.{Held, holds, joined}
-use Rattle.reverb_tuning.specs.Tuning.{sideCombs, combCount, lineCount, tunings, lengthOf}
 use Rattle.memories.specs.Sizes.{placePositions, placeFloats}
 use Rattle.stage.specs.declared.kind.Stage.{Stage}
 use Rattle.stage.specs.declared.kind.Stage.the-variants.{VolumeControl, PanningControl, Distortion, Filter, EqFilter}
@@ -93,20 +92,32 @@ unfoldable mutual
 
 -- ---- their sizes
 
--- one side of a reverb has its combs, eight of them, and after them its all-passes, with lines of these lengths
-pub record FullSide (lengths : List ℕ) (side : Side) : Type 0 where
-  pub combs : map (λ (c : Comb). length (buffer (c .line))) (side .combs) ≡ take sideCombs lengths
-  pub passes : map (λ (l : Line Float). length (buffer l)) (side .passes) ≡ drop sideCombs lengths
+-- `reverb.rs`: the lengths of a side's eight combs, at 44,100 Hz
+abbrev pub combLengths : List ℕ
+combLengths = 1116 ∷ 1188 ∷ 1277 ∷ 1356 ∷ 1422 ∷ 1491 ∷ 1557 ∷ 1617 ∷ []
 
--- what a list place remembers: as many positions and floats as every place has, of which the effect uses so many
+-- and of its four all-passes
+abbrev pub passLengths : List ℕ
+passLengths = 556 ∷ 441 ∷ 341 ∷ 225 ∷ []
+
+-- "at rate R a line of n has floor(n * R / 44100) floats", "right side 23 more each": here `more` is 0 on the left and
+-- 23 on the right
+abbrev pub atRate : ℕ → ℕ → List ℕ → List ℕ
+atRate rate more lengths = map (λ n. (n + more) * rate / 44100) lengths
+
+-- one side of a reverb has all of its combs and all-passes, with lines of their full lengths
+pub record FullSide (rate more : ℕ) (side : Side) : Type 0 where
+  pub combs : map (λ (c : Comb). length (buffer (c .line))) (side .combs) ≡ atRate rate more combLengths
+  pub passes : map (λ (l : Line Float). length (buffer l)) (side .passes) ≡ atRate rate more passLengths
+
+-- the effect uses so many positions and floats, and with the spare ones that makes as many as every place has
 pub record FullPlace (positions floats : ℕ) (spare : Spare) : Type 0 where
   pub positions-are : positions + length (spare .positions) ≡ placePositions
   pub floats-are : floats + length (spare .floats) ≡ placeFloats
 
 unfoldable mutual
-  -- an effect is whole at this rate: a reverb has all of its lines, "at rate R a line of n has floor(n * R / 44100)
-  -- floats", "right side 23 more each". Its place remembers one position a line, one float a comb, and two frames for a
-  -- filter or an EQ
+  -- an effect is complete at this rate: a reverb has all of its lines, and a delay's feedback effects are complete too.
+  -- Its place remembers one position a line, one float a comb, and two frames for a filter or an EQ
   pub Full : ℕ → Effect → Spare → Type 0
   Full rate (volumeControl volume) spare = FullPlace 0 0 spare
   Full rate (panningControl panning) spare = FullPlace 0 0 spare
@@ -114,12 +125,10 @@ unfoldable mutual
   Full rate (filter mode g resonance mix memory) spare = FullPlace 0 4 spare
   Full rate (eqFilter kind g gain q memory) spare = FullPlace 0 4 spare
   Full rate (reverb feedback damping width mix left right) spare =
-      FullSide (map (λ n. lengthOf n rate) tunings) left
-      × FullSide (map (λ n. lengthOf (n + 23) rate) tunings) right
-      × FullPlace lineCount combCount spare
+      FullSide rate 0 left × FullSide rate 23 right × FullPlace 24 16 spare
   Full rate (delay feedback mix line effects) spare = FullPlace 1 0 spare × AllFull rate effects
 
-  -- effects one after another are whole, each with what its list place remembers besides
+  -- effects one after another are complete, each with what its list place remembers besides
   pub AllFull : ℕ → Effects → Type 0
   AllFull rate none = Unit {0}
   AllFull rate (next effect spare effects) = Full rate effect spare × AllFull rate effects

@@ -1,3 +1,3 @@
 pub mod Places
-pub mod LevelsMet
+pub mod AmplitudesMet
 pub mod WholeMet

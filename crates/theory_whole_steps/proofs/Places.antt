@@ -14,7 +14,7 @@ use Rattle.stage.specs.Setup.{unused, stageAt, usedOf}
 use Rattle.stage.specs.Listed.{listFrom}
 use Rattle.top_stages.specs.Tops.{topAt, topsOf}
 use Rattle.top_stages.proofs.TopStages.{top-zero, top-more, top-past, top-le}
-use Rattle.theory_effects.specs.Effects.{Effect, Effects, Spare, none, next, followedBy, howMany}
+use Rattle.theory_effects.specs.Effects.{Effect, Effects, Spare, none, next, appended, howMany}
 use Rattle.theory_effects.specs.Standing.{stagesIn, stagesOf, heldIn, heldOf, Full, AllFull}
 use Rattle.theory_effects.proofs.Joined.{joined-assoc}
 use Rattle.theory_effects.proofs.Sized.{Stand, stand-parts}
@@ -42,33 +42,33 @@ module _ (setup : Setup) where
 
 -- ---- two lists of effects, one after the other
 
-pub stages-followed : (a b : Effects) → stagesOf (followedBy a b) ≡ stagesOf a ++ stagesOf b
-unfolding followedBy stagesOf
-stages-followed none b = refl
-stages-followed (next effect spare a) b = rw (stages-followed a b, append-assoc)
+pub stages-appended : (a b : Effects) → stagesOf (appended a b) ≡ stagesOf a ++ stagesOf b
+unfolding appended stagesOf
+stages-appended none b = refl
+stages-appended (next effect spare a) b = rw (stages-appended a b, append-assoc)
 
-pub held-followed : (a b : Effects) → heldOf (followedBy a b) ≡ joined (heldOf a) (heldOf b)
-unfolding followedBy heldOf joined
-held-followed none b = refl
-held-followed (next effect spare a) b = ap (joined (heldIn effect spare)) (held-followed a b) ∙ sym (joined-assoc (heldIn effect spare) (heldOf a) (heldOf b))
+pub held-appended : (a b : Effects) → heldOf (appended a b) ≡ joined (heldOf a) (heldOf b)
+unfolding appended heldOf joined
+held-appended none b = refl
+held-appended (next effect spare a) b = ap (joined (heldIn effect spare)) (held-appended a b) ∙ sym (joined-assoc (heldIn effect spare) (heldOf a) (heldOf b))
 
-pub full-parts : (rate : ℕ) (a b : Effects) → AllFull rate (followedBy a b) → AllFull rate a × AllFull rate b
-unfolding followedBy AllFull
+pub full-parts : (rate : ℕ) (a b : Effects) → AllFull rate (appended a b) → AllFull rate a × AllFull rate b
+unfolding appended AllFull
 full-parts rate none b f = (tt, f)
 full-parts rate (next effect spare a) b f = let r = full-parts rate a b (f .1) in ((f .0, r .0), r .1)
 
-pub full-followed : (rate : ℕ) (a b : Effects) → AllFull rate a → AllFull rate b → AllFull rate (followedBy a b)
-unfolding followedBy AllFull
-full-followed rate none b f g = g
-full-followed rate (next effect spare a) b f g = (f .0, full-followed rate a b (f .1) g)
+pub full-appended : (rate : ℕ) (a b : Effects) → AllFull rate a → AllFull rate b → AllFull rate (appended a b)
+unfolding appended AllFull
+full-appended rate none b f g = g
+full-appended rate (next effect spare a) b f g = (f .0, full-appended rate a b (f .1) g)
 
-followed-assoc : (a b c : Effects) → followedBy (followedBy a b) c ≡ followedBy a (followedBy b c)
-unfolding followedBy
-followed-assoc none b c = refl
-followed-assoc (next effect spare a) b c = ap (next effect spare) (followed-assoc a b c)
+appended-assoc : (a b c : Effects) → appended (appended a b) c ≡ appended a (appended b c)
+unfolding appended
+appended-assoc none b c = refl
+appended-assoc (next effect spare a) b c = ap (next effect spare) (appended-assoc a b c)
 
-many-more : (a : Effects) (effect : Effect) (spare : Spare) → howMany (followedBy a (next effect spare none)) ≡ suc (howMany a)
-unfolding followedBy howMany
+many-more : (a : Effects) (effect : Effect) (spare : Spare) → howMany (appended a (next effect spare none)) ≡ suc (howMany a)
+unfolding appended howMany
 many-more none effect spare = refl
 many-more (next other spare' a) effect spare = ap suc (many-more a effect spare)
 
@@ -79,7 +79,7 @@ module _ (setup : Setup) (effects : Effects) where
   record Before (k : ℕ) : Type 0 where
     before : Effects
     rest : Effects
-    parts : effects ≡ followedBy before rest
+    parts : effects ≡ appended before rest
     number : howMany before ≡ k
     place : topAt setup k ≡ length (stagesOf before)
 
@@ -89,7 +89,7 @@ module _ (setup : Setup) (effects : Effects) where
     pub effect : Effect
     pub spare : Spare
     pub after : Effects
-    pub parts : effects ≡ followedBy before (next effect spare after)
+    pub parts : effects ≡ appended before (next effect spare after)
     pub number : howMany before ≡ k
     pub place : topAt setup k ≡ length (stagesOf before)
     pub end : topAt setup (suc k) ≡ length (stagesOf before) + length (stagesIn effect)
@@ -100,12 +100,12 @@ module _ (setup : Setup) (effects : Effects) where
     unfolding stagesOf
     top-effect-of k g b = go (b .rest) (b .parts)
       where
-        go : (rest : Effects) → effects ≡ followedBy (b .before) rest → TopEffect k
+        go : (rest : Effects) → effects ≡ appended (b .before) rest → TopEffect k
         go none p =
-            let size : length (stagesOf effects) ≡ length (stagesOf (b .before)) = ap (λ es. length (stagesOf es)) p ∙ ap length (stages-followed (b .before) none ∙ append-nil (stagesOf (b .before))) in
+            let size : length (stagesOf effects) ≡ length (stagesOf (b .before)) = ap (λ es. length (stagesOf es)) p ∙ ap length (stages-appended (b .before) none ∙ append-nil (stagesOf (b .before))) in
             absurd (omega (arith, top-past setup k g, top-le setup (suc k), b .place))
         go (next effect spare after) p =
-            let stages : stagesOf effects ≡ stagesOf (b .before) ++ (stagesIn effect ++ stagesOf after) = ap stagesOf p ∙ stages-followed (b .before) (next effect spare after) in
+            let stages : stagesOf effects ≡ stagesOf (b .before) ++ (stagesIn effect ++ stagesOf after) = ap stagesOf p ∙ stages-appended (b .before) (next effect spare after) in
             let size : length (stagesOf effects) ≡ length (stagesOf (b .before)) + (length (stagesIn effect) + length (stagesOf after)) =
             ap length stages ∙ length-append (stagesOf (b .before)) (stagesIn effect ++ stagesOf after) ∙ ap (λ n. length (stagesOf (b .before)) + n) (length-append (stagesIn effect) (stagesOf after)) in
             let there : Stand setup (stagesIn effect ++ stagesOf after) (topAt setup k) =
@@ -124,17 +124,17 @@ module _ (setup : Setup) (effects : Effects) where
             }
 
     before-top : (k : ℕ) → k ≤ topsOf setup → Before k
-    unfolding followedBy howMany stagesOf
+    unfolding appended howMany stagesOf
     before-top zero g = record { before = none; rest = effects; parts = refl; number = refl; place = top-zero setup }
     before-top (suc k) g =
         let t = top-effect-of k g (before-top k (omega arith)) in
         let one = next (t .effect) (t .spare) none in
         record {
-          before = followedBy (t .before) one;
+          before = appended (t .before) one;
           rest = t .after;
-          parts = t .parts ∙ sym (followed-assoc (t .before) one (t .after));
+          parts = t .parts ∙ sym (appended-assoc (t .before) one (t .after));
           number = many-more (t .before) (t .effect) (t .spare) ∙ ap suc (t .number);
-          place = t .end ∙ sym (length-append (stagesOf (t .before)) (stagesIn (t .effect))) ∙ ap length (ap (λ xs. stagesOf (t .before) ++ xs) (sym (append-nil (stagesIn (t .effect)))) ∙ sym (stages-followed (t .before) one));
+          place = t .end ∙ sym (length-append (stagesOf (t .before)) (stagesIn (t .effect))) ∙ ap length (ap (λ xs. stagesOf (t .before) ++ xs) (sym (append-nil (stagesIn (t .effect)))) ∙ sym (stages-appended (t .before) one));
         }
 
     pub top-effect : (k : ℕ) → k < topsOf setup → TopEffect k

@@ -32,19 +32,19 @@ use Rattle.chain.specs.Demands.{Arrays, Taken, nextFrame, heldBy}
 use Rattle.chain.proofs.Accepts.{ClearOn, ready, orderly}
 use Rattle.chain.proofs.Running.{clear, leaves-is}
 use Rattle.chain.proofs.DemandsMet.{steps-keep-apart}
-use Rattle.theory_effects.specs.Effects.{Effect, Effects, Spare, none, next, followedBy, howMany}
+use Rattle.theory_effects.specs.Effects.{Effect, Effects, Spare, none, next, appended, howMany}
 use Rattle.theory_effects.specs.Process.{process}
 use Rattle.theory_effects.specs.Standing.{stagesIn, stagesOf, heldIn, heldOf, Full, AllFull}
-use Rattle.theory_effects.proofs.Joined.{Sizes, joined-assoc}
+use Rattle.theory_effects.proofs.Joined.{HeldSizes, joined-assoc}
 use Rattle.theory_effects.proofs.Sized.{Stand, stand-parts, floatsIn, start-after, SizesFor, sized-in, sized-of}
 use Rattle.theory_effects.proofs.Kept.{stages-kept, full-kept}
 use Rattle.theory_effects.proofs.Steps.{place-whole}
 use Rattle.theory_effects.proofs.Depths.{four-levels}
 use Rattle.theory_effects.proofs.Built.{parted}
 use Rattle.theory_effects.proofs.Trees.{tree-of}
-use Rattle.theory_whole_steps.specs.WholeSteps.{AllPlaces, listed, samplesOf, StandFor, WholeStep, EffectsStand, StepsWhole, LevelsKnown}
-use Rattle.theory_whole_steps.proofs.LevelsMet.{levels-of}
-use Rattle.theory_whole_steps.proofs.Places.{stand-listed, listed-are, stages-followed, held-followed, full-parts, full-followed, TopEffect, top-effect}
+use Rattle.theory_whole_steps.specs.WholeSteps.{AllPlaces, stageList, twoSamples, StandFor, WholeStep, EffectsStand, StepsWhole, AmplitudesKnown}
+use Rattle.theory_whole_steps.proofs.AmplitudesMet.{amplitudes-of}
+use Rattle.theory_whole_steps.proofs.Places.{stand-listed, listed-are, stages-appended, held-appended, full-parts, full-appended, TopEffect, top-effect}
 
 -- ---- a stretch in the middle
 
@@ -55,8 +55,8 @@ splice-mid : {A : Type 0} (a b c z : List A) (n : ℕ) → length a ≡ n → le
 splice-mid a b c z n p q = rw (take-at a (b ++ c) n p, drop-at a (b ++ c) n p, drop-at b c (length z) (sym q))
 
 module _ (setup : Setup) (i e : ℕ) (a b c : Held)
-    (s : Sizes (startOf setup i) (placePositions * i) (placeFloats * i) a)
-    (t : Sizes (startOf setup e - startOf setup i) (placePositions * e - placePositions * i) (placeFloats * e - placeFloats * i) b) where
+    (s : HeldSizes (startOf setup i) (placePositions * i) (placeFloats * i) a)
+    (t : HeldSizes (startOf setup e - startOf setup i) (placePositions * e - placePositions * i) (placeFloats * e - placeFloats * i) b) where
   stretch-mid : stretch setup i e (joined a (joined b c)) ≡ b
   unfolding stretch joined
   stretch-mid = λ k. record {
@@ -65,7 +65,7 @@ module _ (setup : Setup) (i e : ℕ) (a b c : Held)
     floats = part-mid (a .floats) (b .floats) (c .floats) _ _ (s .floats) (t .floats) k;
   }
 
-  replaced-mid : (z : Held) → Sizes (startOf setup e - startOf setup i) (placePositions * e - placePositions * i) (placeFloats * e - placeFloats * i) z → replaced setup i z (joined a (joined b c)) ≡ joined a (joined z c)
+  replaced-mid : (z : Held) → HeldSizes (startOf setup e - startOf setup i) (placePositions * e - placePositions * i) (placeFloats * e - placeFloats * i) z → replaced setup i z (joined a (joined b c)) ≡ joined a (joined z c)
   unfolding replaced joined
   replaced-mid z u = λ k. record {
     store = splice-mid (a .store) (b .store) (c .store) (z .store) _ (s .store) (u .store ∙ sym (t .store)) k;
@@ -75,7 +75,7 @@ module _ (setup : Setup) (i e : ℕ) (a b c : Held)
 
 -- ---- two samples are a frame
 
-two-samples : (xs : List Float) → length xs ≡ 2 → xs ≡ samplesOf (frameAt 0 xs)
+two-samples : (xs : List Float) → length xs ≡ 2 → xs ≡ twoSamples (frameAt 0 xs)
 unfolding frameAt
 two-samples [] h = absurd (omega arith)
 two-samples (x ∷ []) h = absurd (omega arith)
@@ -84,7 +84,7 @@ two-samples (x ∷ (y ∷ (z ∷ xs))) h = absurd (omega arith)
 
 -- ---- the effects of an accepted call
 
-module _ (setup : Setup) (effects : Effects) (all : AllPlaces setup) (few : setup .count ≤ places) (e : stagesOf effects ≡ listed setup) where
+module _ (setup : Setup) (effects : Effects) (all : AllPlaces setup) (few : setup .count ≤ places) (e : stagesOf effects ≡ stageList setup) where
   stages-are : stagesOf effects ≡ listFrom (stageAt setup) 0 (setup .count)
   stages-are = e ∙ sym (listed-are setup (setup .count) (omega (arith, all)))
 
@@ -100,7 +100,7 @@ start-zero setup = refl
 
 -- what the effects before list place i hold
 sizes-before : (setup : Setup) (effects : Effects) (i : ℕ) → Stand setup (stagesOf effects) 0 → AllFull (setup .rate) effects → i ≡ length (stagesOf effects)
-    → Sizes (startOf setup i) (placePositions * i) (placeFloats * i) (heldOf effects)
+    → HeldSizes (startOf setup i) (placePositions * i) (placeFloats * i) (heldOf effects)
 unfolding startOf
 sizes-before setup effects i h full e =
     let z = sized-of (setup .rate) effects full in
@@ -110,11 +110,15 @@ sizes-before setup effects i h full e =
 
 -- what an effect at the list places from i up to e holds
 sizes-at : (setup : Setup) (effect : Effect) (spare : Spare) (i e : ℕ) → Stand setup (stagesIn effect) i → Full (setup .rate) effect spare → e ≡ i + length (stagesIn effect)
-    → Sizes (startOf setup e - startOf setup i) (placePositions * e - placePositions * i) (placeFloats * e - placeFloats * i) (heldIn effect spare)
+    → HeldSizes (startOf setup e - startOf setup i) (placePositions * e - placePositions * i) (placeFloats * e - placeFloats * i) (heldIn effect spare)
 sizes-at setup effect spare i e h full q =
     let z = sized-in (setup .rate) effect spare full in
     let start = ap (startOf setup) q ∙ start-after setup (stagesIn effect) i h in
     record { store = z .store ∙ omega arith; positions = z .positions ∙ omega arith; floats = z .floats ∙ omega arith }
+
+-- effects with the same stages have as many floats of lines
+same-store : (rate : ℕ) (a b : Effects) → AllFull rate a → AllFull rate b → stagesOf a ≡ stagesOf b → length (heldOf a .store) ≡ length (heldOf b .store)
+same-store rate a b f g e = sized-of rate a f .store ∙ ap (floatsIn rate) e ∙ sym (sized-of rate b g .store)
 
 -- ---- a step of the effect of top stage k
 
@@ -129,15 +133,15 @@ module _ (setup : Setup) (effects : Effects) (past : Held) (k : ℕ) (t : TopEff
   rest = joined (heldOf (t .after)) past
 
   -- all that is held, with the effect's own in the middle
-  in-the-middle : (effect : Effect) → joined (heldOf (followedBy (t .before) (next effect (t .spare) (t .after)))) past ≡ joined (heldOf (t .before)) (joined (heldIn effect (t .spare)) rest)
+  in-the-middle : (effect : Effect) → joined (heldOf (appended (t .before) (next effect (t .spare) (t .after)))) past ≡ joined (heldOf (t .before)) (joined (heldIn effect (t .spare)) rest)
   unfolding heldOf
   in-the-middle effect =
-      ap (λ h. joined h past) (held-followed (t .before) (next effect (t .spare) (t .after)))
+      ap (λ h. joined h past) (held-appended (t .before) (next effect (t .spare) (t .after)))
       ∙ joined-assoc (heldOf (t .before)) (joined (heldIn effect (t .spare)) (heldOf (t .after))) past
       ∙ ap (joined (heldOf (t .before))) (joined-assoc (heldIn effect (t .spare)) (heldOf (t .after)) past)
 
   before-stand : Stand setup (stagesOf (t .before)) 0
-  before-stand = stand-parts setup (stagesOf (t .before)) (stagesOf (next (t .effect) (t .spare) (t .after))) 0 (subst (λ stages. Stand setup stages 0) (ap stagesOf (t .parts) ∙ stages-followed (t .before) (next (t .effect) (t .spare) (t .after))) stand) .0
+  before-stand = stand-parts setup (stagesOf (t .before)) (stagesOf (next (t .effect) (t .spare) (t .after))) 0 (subst (λ stages. Stand setup stages 0) (ap stagesOf (t .parts) ∙ stages-appended (t .before) (next (t .effect) (t .spare) (t .after))) stand) .0
 
   before-full : AllFull (setup .rate) (t .before)
   before-full = full-parts (setup .rate) (t .before) (next (t .effect) (t .spare) (t .after)) (subst (AllFull (setup .rate)) (t .parts) full) .0
@@ -151,10 +155,10 @@ module _ (setup : Setup) (effects : Effects) (past : Held) (k : ℕ) (t : TopEff
     abbrev end-is : e ≡ i + length (stagesIn effect)
     end-is = t .end ∙ omega (arith, t .place, ap length same)
 
-    own-sizes : Sizes (startOf setup e - startOf setup i) (placePositions * e - placePositions * i) (placeFloats * e - placeFloats * i) (heldIn effect (t .spare))
+    own-sizes : HeldSizes (startOf setup e - startOf setup i) (placePositions * e - placePositions * i) (placeFloats * e - placeFloats * i) (heldIn effect (t .spare))
     own-sizes = sizes-at setup effect (t .spare) i e (subst (λ stages. Stand setup stages i) (sym same) (t .stands)) whole end-is
 
-  before-sizes : Sizes (startOf setup i) (placePositions * i) (placeFloats * i) (heldOf (t .before))
+  before-sizes : HeldSizes (startOf setup i) (placePositions * i) (placeFloats * i) (heldOf (t .before))
   before-sizes = sizes-before setup (t .before) i before-stand before-full (t .place)
 
   all-is : joined (heldOf effects) past ≡ joined (heldOf (t .before)) (joined (heldIn (t .effect) (t .spare)) rest)
@@ -169,7 +173,7 @@ module _ (setup : Setup) (effects : Effects) (past : Held) (k : ℕ) (t : TopEff
         ap (λ (h : Held). processAt setup (startsOf setup) i e (ran x h)) (ap (stretch setup i e) all-is ∙ stretch-mid setup i e _ _ rest before-sizes (own-sizes (t .effect) refl whole))
         ∙ place-whole setup (t .effect) (t .spare) i e x (t .stands) (end-is (t .effect) refl whole) (omega (arith, top-le setup (suc k))) (four-levels setup sound (t .effect) i (t .stands) (omega (arith, end-is (t .effect) refl whole, top-le setup (suc k)))) whole
 
-    left-of : replaced setup i (heldIn (process (t .effect) x .1) (t .spare)) (joined (heldOf effects) past) ≡ joined (heldOf (followedBy (t .before) (next (process (t .effect) x .1) (t .spare) (t .after)))) past
+    left-of : replaced setup i (heldIn (process (t .effect) x .1) (t .spare)) (joined (heldOf effects) past) ≡ joined (heldOf (appended (t .before) (next (process (t .effect) x .1) (t .spare) (t .after)))) past
     left-of =
         let after = process (t .effect) x .1 in
         ap (replaced setup i (heldIn after (t .spare))) all-is
@@ -190,6 +194,14 @@ steps-whole setup s k effects past all a t st =
     let made = ap (λ (h : Held). processAt setup (startsOf setup) (topAt setup k) (topAt setup (suc k)) (ran x (stretch setup (topAt setup k) (topAt setup (suc k)) h))) (st .held) ∙ made-of setup effects past k u (st .full) (z .shapes) stand x in
     let after = process (u .effect) x .1 in
     let others = others-full setup effects past k u (st .full) (z .shapes) stand in
+    let then = appended (u .before) (next after (u .spare) (u .after)) in
+    let stages : stagesOf then ≡ stagesOf effects =
+        stages-appended (u .before) (next after (u .spare) (u .after))
+        ∙ ap (λ (stages : List Stage). stagesOf (u .before) ++ (stages ++ stagesOf (u .after))) (stages-kept (u .effect) x)
+        ∙ sym (stages-appended (u .before) (next (u .effect) (u .spare) (u .after)))
+        ∙ sym (ap stagesOf (u .parts)) in
+    let full : AllFull (setup .rate) then =
+        full-appended (setup .rate) (u .before) (next after (u .spare) (u .after)) (before-full setup effects past k u (st .full) (z .shapes) stand) (full-kept (setup .rate) (u .effect) (u .spare) x (others .0), others .1) in
     record {
       before = u .before;
       effect = u .effect;
@@ -199,19 +211,15 @@ steps-whole setup s k effects past all a t st =
       number = u .number;
       input = x;
       given = two-samples (nextFrame setup k s) (length-part (at s k * 2) 2 (s .samples) (omega (arith, r .samples, may .room)));
-      output = steps-keep-apart setup s k a t .frame ∙ ap (λ (r : Ran). samplesOf (r .frame)) made;
+      output = steps-keep-apart setup s k a t .frame ∙ ap (λ (r : Ran). twoSamples (r .frame)) made;
       held = record {
-        stages =
-            stages-followed (u .before) (next after (u .spare) (u .after))
-            ∙ ap (λ (stages : List Stage). stagesOf (u .before) ++ (stages ++ stagesOf (u .after))) (stages-kept (u .effect) x)
-            ∙ sym (stages-followed (u .before) (next (u .effect) (u .spare) (u .after)))
-            ∙ sym (ap stagesOf (u .parts))
-            ∙ st .stages;
-        full = full-followed (setup .rate) (u .before) (next after (u .spare) (u .after)) (before-full setup effects past k u (st .full) (z .shapes) stand) (full-kept (setup .rate) (u .effect) (u .spare) x (others .0), others .1);
+        stages = stages ∙ st .stages;
+        full = full;
         held =
             ap (λ (z : State Float Held). z .held) (leaves-is setup s (k ∷ []) t)
             ∙ (λ j. replaced setup (topAt setup k) (made j .held) (st .held j))
             ∙ left-of setup effects past k u (st .full) (z .shapes) stand x;
+        needed = st .needed ∙ same-store (setup .rate) effects then (st .full) full (sym stages);
       };
     }
 
@@ -224,7 +232,7 @@ module _ (setup : Setup) (s : State Float Held) (a : Arrays s) (order : List ℕ
   abbrev lines : Held
   lines = front (neededOf setup) (placePositions * c) (placeFloats * c) (s .held)
 
-  lines-sizes : Sizes (startOf setup c - startOf setup 0) (placePositions * (c - 0)) (placeFloats * (c - 0)) lines
+  lines-sizes : HeldSizes (startOf setup c - startOf setup 0) (placePositions * (c - 0)) (placeFloats * (c - 0)) lines
   unfolding front
   lines-sizes = record {
     store = length-take-le (neededOf setup) (s .held .store) (z .room) ∙ omega (arith, start-zero setup);
@@ -252,12 +260,13 @@ effects-stand setup s order all a t =
         stages = tree .1 ∙ ap (listFrom (stageAt setup) 0) used ∙ listed-are setup (setup .count) (omega (arith, all, z .few));
         full = tree .2;
         held = sym (parted (neededOf setup) (placePositions * c) (placeFloats * c) (s .held)) ∙ ap (λ (h : Held). joined h past) (sym (tree .3));
+        needed = omega (arith, start-zero setup, lines-sizes setup s a order z .store) ∙ ap (λ (h : Held). length (h .store)) (sym (tree .3));
       },
     )
 
 -- ---- and their amplitudes
 
-pub levels-known : LevelsKnown
-levels-known setup s order effects past all t st =
+pub amplitudes-known : AmplitudesKnown
+amplitudes-known setup s order effects past all t st =
     let z = clear setup s order t in
-    levels-of setup (usedOf setup) (z .settings) effects 0 (stands setup effects all (z .few) (st .stages)) (omega (arith, many setup effects all (z .few) (st .stages)))
+    amplitudes-of setup (usedOf setup) (z .settings) effects 0 (stands setup effects all (z .few) (st .stages)) (omega (arith, many setup effects all (z .few) (st .stages)))

@@ -1,4 +1,4 @@
--- The decibels of effects whose stages have settings in their ranges, as specs/Levels.antt states them. Assumes nothing.
+-- The decibels of effects whose stages have settings in their ranges, as specs/AmplitudesIn.antt states them. Assumes nothing.
 use mathlib.Core.Path.{_≡_, refl, ap, sym, _∙_, subst}
 use mathlib.Core.Bool.{Bool, true, _&&_, and-eq-true-iff}
 use Prim.Native.Nat.{ℕ, suc, _+_, _≤_, _<_}
@@ -23,7 +23,7 @@ use Rattle.stage.specs.Setup.{stageAt}
 use Rattle.theory_effects.specs.Effects.{Effect, volumeControl, panningControl, distortion, filter, eqFilter, reverb, delay, Effects, none, next}
 use Rattle.theory_effects.specs.Standing.{stagesIn, stagesOf}
 use Rattle.theory_effects.proofs.Sized.{Stand, stand-parts}
-use Rattle.theory_whole_steps.specs.Levels.{Level, Levels, AllLevels}
+use Rattle.theory_whole_steps.specs.Amplitudes.{AmplitudeKnown, AmplitudesIn, AllAmplitudes}
 
 -- ---- a test that passes
 
@@ -38,8 +38,8 @@ unfolding amplitudeOf
 silence (pos k) h = absurd (h .le)
 silence (negsuc k) h = rw (le-ltb k 59 (leb→le 59 k (h .le)))
 
-level : (z : ℤ) → z ≤ℤ pos 24 → Level z
-level z h = record { silent = silence z; loud = λ l. amplitude-rule z l h }
+amplitude-known : (z : ℤ) → z ≤ℤ pos 24 → AmplitudeKnown z
+amplitude-known z h = record { silent = silence z; audible = λ l. amplitude-rule z l h }
 
 -- ---- the decibels of a stage whose settings are in their ranges
 
@@ -67,26 +67,26 @@ module _ (setup : Setup) (used : ℕ) (settings : (i : ℕ) → i < used → inR
   ranged s i e h = ap inRangeOf (sym e) ∙ settings i h
 
   mutual
-    unfolding Levels stagesIn
+    unfolding AmplitudesIn stagesIn
 
-    levels-in : (effect : Effect) (i : ℕ) → Stand setup (stagesIn effect) i → i + length (stagesIn effect) ≤ used → Levels effect
-    levels-in (volumeControl volume) i h g = level volume (at-most (volume-range volume (ranged _ i (h .0) (omega arith))))
-    levels-in (panningControl panning) i h g = tt
-    levels-in (distortion kind drive mix) i h g =
+    amplitudes-in : (effect : Effect) (i : ℕ) → Stand setup (stagesIn effect) i → i + length (stagesIn effect) ≤ used → AmplitudesIn effect
+    amplitudes-in (volumeControl volume) i h g = amplitude-known volume (at-most (volume-range volume (ranged _ i (h .0) (omega arith))))
+    amplitudes-in (panningControl panning) i h g = tt
+    amplitudes-in (distortion kind drive mix) i h g =
         let r = drive-range kind drive mix (ranged _ i (h .0) (omega arith)) in
         amplitude-rule drive (at-most (r .0)) (at-most (r .1))
-    levels-in (filter mode tan resonance mix memory) i h g = tt
-    levels-in (eqFilter kind tan gain sharp memory) i h g =
+    amplitudes-in (filter mode tan resonance mix memory) i h g = tt
+    amplitudes-in (eqFilter kind tan gain sharp memory) i h g =
         let r = gain-range kind tan gain sharp (ranged _ i (h .0) (omega arith)) in
         eq-amplitude-rule gain (at-most (r .0)) (at-most (r .1))
-    levels-in (reverb feedback damping width mix left right) i h g = tt
-    levels-in (delay feedback mix line effects) i h g =
+    amplitudes-in (reverb feedback damping width mix left right) i h g = tt
+    amplitudes-in (delay feedback mix line effects) i h g =
         let at : i < used = omega arith in
-        (level feedback (at-most (feedback-range _ feedback mix _ (ranged _ i (h .0) at))), levels-of effects (i + 1) (h .1) (omega arith))
+        (amplitude-known feedback (at-most (feedback-range _ feedback mix _ (ranged _ i (h .0) at))), amplitudes-of effects (i + 1) (h .1) (omega arith))
 
-    pub levels-of : (effects : Effects) (i : ℕ) → Stand setup (stagesOf effects) i → i + length (stagesOf effects) ≤ used → AllLevels effects
-    levels-of none i h g = tt
-    levels-of (next effect spare effects) i h g =
+    pub amplitudes-of : (effects : Effects) (i : ℕ) → Stand setup (stagesOf effects) i → i + length (stagesOf effects) ≤ used → AllAmplitudes effects
+    amplitudes-of none i h g = tt
+    amplitudes-of (next effect spare effects) i h g =
         let parts = stand-parts setup (stagesIn effect) (stagesOf effects) i h in
         let size = length-append (stagesIn effect) (stagesOf effects) in
-        (levels-in effect i (parts .0) (omega arith), levels-of effects (i + length (stagesIn effect)) (parts .1) (omega arith))
+        (amplitudes-in effect i (parts .0) (omega arith), amplitudes-of effects (i + length (stagesIn effect)) (parts .1) (omega arith))
