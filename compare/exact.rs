@@ -38,7 +38,7 @@ fn zero_mixes() -> Vec<Case> {
 
 // A half run block of a delay, which owns a filter, and a volume, with something at the first and the last
 // place of all that is held.
-fn half_run() -> Case {
+fn half_run(what: What) -> Case {
     let stages = vec![delay(2, -6, 0.5, 1), filter(0, 7, 0.5, 0.5), volume(-3)];
     let mut case = silent(44_100, stages, 4);
     let held = &mut case.held;
@@ -49,21 +49,14 @@ fn half_run() -> Case {
     held.floats[FLOATS + COMB_FLOATS..2 * FLOATS].copy_from_slice(&[0.1, -0.2, 0.3, -0.4]);
     held.floats[ALL_FLOATS - 1] = -0.875;
     (held.progress[0], held.progress[PLACES - 1]) = (1, 9);
-    case.calls[0].what = What::Run(vec![1, 0, 1]);
+    case.calls[0].what = what;
     case
 }
 
 // The half run block for each function, and for orders that are refused at their end.
 pub fn half_runs() -> Vec<Case> {
     let orders = [vec![1, 0, 1], vec![0, 0], vec![0, 2]].map(What::Run);
-    let calls = orders.into_iter().chain(OTHERS);
-    calls
-        .map(|what| {
-            let mut case = half_run();
-            case.calls[0].what = what;
-            case
-        })
-        .collect()
+    orders.into_iter().chain(OTHERS).map(half_run).collect()
 }
 
 // Slices one shorter and one longer than they must be, for each function.
