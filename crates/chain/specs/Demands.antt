@@ -49,7 +49,8 @@ module _ (setup : Setup) where
     pub done : AllAt (framesOf (s .samples)) (leavesOf setup s order)
 
   -- ---- Demand 2: "each accepted step gives the Rust's bits". Here: an accepted step is the one that the definitions
-  -- say. That these give the Rust's bits is not proved but compared, by the programs of compare/
+  -- say. That it is a frame through an effect as kira has it is `StepsWhole` of crate theory_whole_steps; that such an
+  -- effect gives the Rust's bits is not proved but compared, by the programs of compare/
 
   -- one call with k and then the order leaves what two calls leave, one with k alone and one with the order; and the
   -- call with k alone leaves what the definition of a step says

@@ -16,9 +16,10 @@ use Rattle.fresh_start.specs.Start.{startedOf}
 use Rattle.chain.specs.Run.{leavesOf, renderedOf}
 use Rattle.chain.specs.Demands.{Arrays, Outside}
 
--- z has all that in s belongs to no stage, in the same places; `Outside 0 e` says that a list is as long as it was, and
--- the same from place e on
+-- what belongs to no stage is the same in z as in s; `Outside 0 e` says that a list is as long as it was, and the same
+-- from place e on
 pub record PastKept (setup : Setup) (s z : State Float Held) : Type 0 where
+  -- there are as many samples
   pub samples : length (z .samples) ≡ length (s .samples)
   -- the floats past the last line
   pub store : Outside 0 (neededOf setup) (s .held .store) (z .held .store)

@@ -12,7 +12,6 @@ use Rattle.line.specs.Held.{Held}
 use Rattle.theory_order.specs.Chain.{State}
 use Rattle.theory_tables.specs.Rows.{ByTheTable}
 use Rattle.memories.specs.Sizes.{allPositions, allFloats}
-use Rattle.memories.specs.Memories.{zeroMemories}
 use Rattle.stage.specs.declared.setup.Setup.{Setup}
 use Rattle.stage.specs.Setup.{usedOf}
 use Rattle.line_layout.specs.Layout.{neededOf}
@@ -21,7 +20,7 @@ use Rattle.answer.specs.Answer.{numberOf, placeOf, acceptedOf}
 use Rattle.refusals.specs.Refusals.{chainRows, refusalRows, chainAnswer}
 use Rattle.chain.specs.Chain.{ordered}
 use Rattle.chain.specs.Run.{answerOn, leavesOf, renderedOf}
-use Rattle.fresh_start.specs.Start.{startedOf}
+use Rattle.fresh_start.specs.Start.{startedOf, startMemories}
 
 -- a call of `run` answers by the table: "a refusal comes exactly under its condition, gives its number and place, and
 -- changes no sample, line, memory or progress"
@@ -57,10 +56,9 @@ pub record StartTabled (setup : Setup) (store : List Float) : Type 0 where
   pub cleared : acceptedOf (chainAnswer setup (neededOf setup) (length store)) ≡ true
       → startedOf setup store ≡ replicate (neededOf setup) plusZero ++ drop (neededOf setup) store
   pub all-used : acceptedOf (chainAnswer setup (neededOf setup) (length store)) ≡ true → usedOf setup ≡ setup .count
-  -- "it takes no memories and gives them at zero, refused or not": `zeroMemories`, which `start` promises to give
-  -- whatever its answer is, has all positions at 0 and all floats at +0
-  pub positions : zeroMemories .positions ≡ replicate allPositions 0
-  pub floats : zeroMemories .floats ≡ replicate allFloats plusZero
+  -- "it takes no memories and gives them at zero, refused or not": all positions at 0 and all floats at +0
+  pub positions : startMemories setup store .positions ≡ replicate allPositions 0
+  pub floats : startMemories setup store .floats ≡ replicate allFloats plusZero
 
 -- every call of `start` answers by rows 1 to 5 of the table
 abbrev pub StartsTabled : Type 0

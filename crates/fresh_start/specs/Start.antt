@@ -5,6 +5,8 @@ use Prim.Native.Nat.{ℕ}
 use lib.Ieee.{Float, binary32}
 use lib.ListN.{length, replicate, drop}
 use Rattle.float.specs.Literal.{literal}
+use Rattle.memories.specs.declared.Memories.{Memories}
+use Rattle.memories.specs.Memories.{zeroMemories}
 use Rattle.stage.specs.declared.setup.Setup.{Setup}
 use Rattle.line_layout.specs.Layout.{neededOf}
 use Rattle.answer.specs.Answer.{acceptedOf}
@@ -23,3 +25,8 @@ unfoldable pub startedOf : Setup → List Float → List Float
 unfolding clearedTo
 startedOf setup store =
     cond (acceptedOf (chainAnswer setup (neededOf setup) (length store))) (clearedTo (neededOf setup) store) store
+
+-- the memories that a fresh start of this chain and store gives: "it takes no memories and gives them at zero, refused
+-- or not"
+abbrev pub startMemories : Setup → List Float → Memories
+startMemories setup store = zeroMemories

@@ -3,10 +3,9 @@
 ghost use mathlib.Core.Path.{_≡_};
 ghost use Prim.Native.Nat.{_≤_};
 ghost use lib.ListN.{length};
-ghost use Rattle.memories.specs.Memories.{zeroMemories};
 ghost use Rattle.line_layout.specs.Layout.{neededOf};
 ghost use Rattle.refusals.specs.Refusals.{chainAnswer};
-ghost use Rattle.fresh_start.specs.Start.{clearedTo, startedOf};
+ghost use Rattle.fresh_start.specs.Start.{clearedTo, startMemories, startedOf};
 use answer::Answer;
 use answer::is_accepted;
 use line_layout::starts::needed;
@@ -35,7 +34,7 @@ fn clear(store: &mut [f32], n: usize)
 // Makes checks 1 to 5 and, where none refuses, sets the floats that the chain needs to +0. Floats past
 // these, and all floats where the start is refused, stay as they were.
 pub fn start(setup: Setup, store: &mut [f32]) -> Started
-    ensures answer { λ r. ⌜ (r .answer ≡ chainAnswer setup (neededOf setup) (length (now (store .entry)))) × (r .memories ≡ zeroMemories) ⌝ }
+    ensures answer { λ r. ⌜ (r .answer ≡ chainAnswer setup (neededOf setup) (length (now (store .entry)))) × (r .memories ≡ startMemories setup (now (store .entry))) ⌝ }
     ensures leaves { λ r. ⌜ now (store .exit) ≡ startedOf setup (now (store .entry)) ⌝ }
 {
     let floats = needed(setup);

@@ -10,7 +10,7 @@ use Rattle.float.specs.Finite.{finiteOf}
 use Rattle.theory_order.specs.Stretch.{part}
 use Rattle.theory_tables.specs.Condition.{Condition, less, atMost, same, fails, both, _or_}
 use Rattle.theory_tables.specs.Rows.{Row, row, given, first, firstRow}
-use Rattle.memories.specs.Sizes.{places, placePositions}
+use Rattle.memories.specs.Sizes.{placePositions}
 use Rattle.stage.specs.declared.setup.Setup.{Setup}
 use Rattle.stage.specs.Setup.{stageAt, usedOf}
 use Rattle.stage.specs.Range.{inRangeOf}
@@ -52,7 +52,7 @@ badSample from samples i = both (atMost from i) (fails (finiteOf (getD samples i
 abbrev pub chainRows : Setup → ℕ → ℕ → List (Row Answer)
 chainRows setup needed floats =
     row 1 (given 0 (less (setup .rate) 8000 or less 192000 (setup .rate))) (λ p. Rate)
-    ∷ row 2 (given 0 (less places (setup .count))) (λ p. Stages)
+    ∷ row 2 (given 0 (less 16 (setup .count))) (λ p. Stages)
     ∷ row 3 (first (usedOf setup) (faulty setup)) Shape
     ∷ row 4 (first (usedOf setup) (outOfRange setup)) Setting
     ∷ row 5 (given needed (less floats needed)) Store

@@ -8,10 +8,9 @@ use Rattle.line.specs.Held.{Held, holds}
 use Rattle.theory_order.specs.Chain.{State}
 use Rattle.refusals.specs.Refusals.{chainAnswer}
 use Rattle.memories.specs.Sizes.{places, allPositions, allFloats}
-use Rattle.memories.specs.Memories.{zeroMemories}
 use Rattle.line_layout.specs.Layout.{neededOf}
 use Rattle.chain.specs.Run.{answerOn, leavesOf, renderedOf}
-use Rattle.fresh_start.specs.Start.{startedOf}
+use Rattle.fresh_start.specs.Start.{startedOf, startMemories}
 use Rattle.stage_words.specs.Words.{setupOf}
 use Rattle.sedhavil.specs.declared.Reply.{Reply}
 use Rattle.sedhavil.specs.declared.Room.{Room}
@@ -58,7 +57,8 @@ startReply rate words h =
 unfoldable pub startLeaves : ℕ → List ℕ → Held → Held
 startLeaves rate words h =
     read (startFault words h)
-    (holds (startedOf (setupOf rate words) (h .store)) (zeroMemories .positions) (zeroMemories .floats))
+    (let memories = startMemories (setupOf rate words) (h .store) in
+    holds (startedOf (setupOf rate words) (h .store)) (memories .positions) (memories .floats))
     h
 
 -- ---- floats needed

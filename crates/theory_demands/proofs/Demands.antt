@@ -52,7 +52,7 @@ demand-1-effects = WholeMet.effects-stand
 pub demand-2 : StepByStep
 demand-2 = DemandsMet.step-by-step
 
--- and that step is a frame through one of these effects, as kira takes it: no guard of the definitions is met. That an effect makes of a frame what the Rust makes of it is compared by running the Rust (compare/)
+-- and that step is one frame through one of these effects, as kira processes it, so nothing that the definitions say for other calls comes into it. That an effect makes of a frame what the Rust makes of it is compared by running the Rust (compare/)
 pub demand-2-whole : StepsWhole
 demand-2-whole = WholeMet.steps-whole
 
@@ -106,6 +106,6 @@ demand-3-cut = CutMet.cut-anywhere
 pub demand-3-render-cut : RenderCutAnywhere
 demand-3-render-cut = CutMet.render-cut-anywhere
 
--- and `render` is such an order
+-- and `render` leaves what every such order leaves
 pub render-is-run : RenderIsRun
 render-is-run = DemandsMet.render-is-run

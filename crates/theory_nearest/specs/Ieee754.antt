@@ -56,7 +56,7 @@ pub record NearestMultiple (f : Format) (n d : ℕ) (y : Float) : Type 0 where
   pub nearest : NearestWhole (n * 2 ^ low f) d count
   pub size : over f y * 2 ^ low f ≡ count * under y
 
--- narrow is the conversion of any value, of whatever format, to the format f
+-- narrow is the conversion of any value, of whatever format, to the format f: 5.4.2, convertFormat
 pub record Narrowing (f : Format) (narrow : Float → Float) : Type 0 where
   -- 6.2: NaN becomes NaN
   pub of-nan : narrow nan ≡ nan

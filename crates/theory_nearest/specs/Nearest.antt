@@ -57,8 +57,8 @@ pub record Nearer (f : Format) (j n d : ℕ) (y z : Float) : Type 0 where
   pub tie : (over f y * under z ≡ over f z * under y → ⊥) → n * (2 * product y z) ^ j ≡ sum f y z ^ j * d
       → (lastDigit f y ≡ 0) × (lastDigit f z ≡ 1)
 
--- z, a value of the other sign, is farther from t than y is: t lies past their mean. Where z's magnitude is no smaller
--- than y's, nothing is asked: their mean is zero or lies beyond it, and t does not.
+-- z, a value of the other sign, is no nearer to t than y is: t lies past their mean. Where z's magnitude is no smaller
+-- than y's, nothing is asked: their mean is zero or lies beyond it, and t does not. The two zeros are equally near.
 abbrev pub Farther : Format → ℕ → ℕ → ℕ → Float → Float → Type 0
 Farther f j n d y z = Smaller f z y → difference f y z ^ j * d < n * (2 * product y z) ^ j
 

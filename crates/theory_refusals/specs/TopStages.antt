@@ -32,6 +32,6 @@ pub record Shared (setup : Setup) : Type 0 where
   pub own : (k i : ℕ) → k < topsOf setup → topAt setup k < i
       → Holds (owns setup (topAt setup k) i) ↔ (i < topAt setup (suc k))
 
--- in every list without a faulty stage they do
+-- in every list without a faulty stage the top stages share it so
 abbrev pub TopStagesHaveDepth0 : Type 0
 TopStagesHaveDepth0 = (setup : Setup) → NoneFaulty setup → Shared setup

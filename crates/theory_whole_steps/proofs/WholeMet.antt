@@ -196,12 +196,12 @@ steps-whole setup s k effects past all a t st =
     let others = others-full setup effects past k u (st .full) (z .shapes) stand in
     let then = appended (u .before) (next after (u .spare) (u .after)) in
     let stages : stagesOf then ≡ stagesOf effects =
-        stages-appended (u .before) (next after (u .spare) (u .after))
-        ∙ ap (λ (stages : List Stage). stagesOf (u .before) ++ (stages ++ stagesOf (u .after))) (stages-kept (u .effect) x)
-        ∙ sym (stages-appended (u .before) (next (u .effect) (u .spare) (u .after)))
-        ∙ sym (ap stagesOf (u .parts)) in
+    stages-appended (u .before) (next after (u .spare) (u .after))
+    ∙ ap (λ (stages : List Stage). stagesOf (u .before) ++ (stages ++ stagesOf (u .after))) (stages-kept (u .effect) x)
+    ∙ sym (stages-appended (u .before) (next (u .effect) (u .spare) (u .after)))
+    ∙ sym (ap stagesOf (u .parts)) in
     let full : AllFull (setup .rate) then =
-        full-appended (setup .rate) (u .before) (next after (u .spare) (u .after)) (before-full setup effects past k u (st .full) (z .shapes) stand) (full-kept (setup .rate) (u .effect) (u .spare) x (others .0), others .1) in
+    full-appended (setup .rate) (u .before) (next after (u .spare) (u .after)) (before-full setup effects past k u (st .full) (z .shapes) stand) (full-kept (setup .rate) (u .effect) (u .spare) x (others .0), others .1) in
     record {
       before = u .before;
       effect = u .effect;
