@@ -1,6 +1,6 @@
--- What an accepted step does: it takes one frame through one effect, as kira does (crate theory_effects). The definition
--- of a step also says what happens where lines are too short, the list ends too early or stages are too deep; an
--- accepted step never gets there. Definitions only.
+-- What an accepted step does: it takes one frame through one effect, as kira does (crate theory_effects). The
+-- definition of a step also says what happens where lines are too short, the list ends too early or stages are too
+-- deep; an accepted step never gets there. Definitions only.
 use mathlib.Core.Path.{_≡_}
 use mathlib.Core.List.{List, [], _∷_, map}
 use Prim.Native.Nat.{ℕ, _*_}
