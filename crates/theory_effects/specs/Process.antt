@@ -30,8 +30,8 @@ eachInTurn f x (a ∷ rest) =
 unfoldable pub combStep : Float → Float → Float → Float → Comb → Float × Comb
 combStep feedback damp input sum comb =
     let output = comb .line .here in
-    let store = add binary32 (mul binary32 output (sub binary32 (literal binary32 1 1) damp))
-    (mul binary32 (comb .filterStore) damp) in (
+    let fresh = mul binary32 output (sub binary32 (literal binary32 1 1) damp) in
+    let store = add binary32 fresh (mul binary32 (comb .filterStore) damp) in (
       add binary32 sum output,
       record { line = stored (add binary32 input (mul binary32 store feedback)) (comb .line); filterStore = store },
     )
