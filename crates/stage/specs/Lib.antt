@@ -1,4 +1,5 @@
 pub mod Holding
 pub mod Setup
 pub mod Listed
+pub mod Added
 pub mod Range
