@@ -1,4 +1,4 @@
--- The three demands, in the user's words, each closed by the name of its proof. The statements are definitions: of crate `chain` (specs/Table.antt, specs/Demands.antt, specs/Past.antt), about what its public functions answer and leave; of crate `theory_refusals` (specs/TopStages.antt); of crate `theory_whole_steps` (specs/WholeSteps.antt), about what an accepted step is; those of square root and narrowing are of crate `theory_nearest` (specs/Ieee754.antt, specs/Nearest.antt), and those of amplitudes of crate `decibels` (specs/Power.antt). Assumes nothing.
+-- The three demands, in the user's words, each closed by the name of its proof. The statements are definitions: of crate `stage` (specs/Added.antt); of crate `chain` (specs/Table.antt, specs/Demands.antt, specs/Past.antt), about what its public functions answer and leave; of crate `theory_refusals` (specs/TopStages.antt); of crate `theory_whole_steps` (specs/WholeSteps.antt), about what an accepted step is; those of square root and narrowing are of crate `theory_nearest` (specs/Ieee754.antt, specs/Nearest.antt), and those of amplitudes of crate `decibels` (specs/Power.antt). Assumes nothing.
 use Prim.Native.Nat.{ℕ}
 use mathlib.Core.Bool.{Bool}
 use lib.IntN.{ℤ, pos, negsuc}
@@ -16,6 +16,8 @@ use Rattle.decibels.proofs.AmplitudeRules as Tables
 use Rattle.chain.specs.Table.{AnswersTabled, RenderUnchanged, StartsTabled}
 use Rattle.chain.specs.Demands.{StepByStep, EntriesDecide, StepsKeepApart, StepsStandAlone, AnyOrder, WholeFrames, CutAnywhere, RenderCutAnywhere, RenderIsRun}
 use Rattle.chain.specs.Past.{PastStays}
+use Rattle.stage.specs.Added.{StagesAdded}
+use Rattle.stage.proofs.Added as Added
 use Rattle.theory_refusals.specs.TopStages.{TopStagesHaveDepth0}
 use Rattle.theory_refusals.proofs.TopStages as TopStages
 use Rattle.theory_whole_steps.specs.WholeSteps.{EffectsStand, StepsWhole, AmplitudesKnown}
@@ -39,6 +41,10 @@ demand-1-entries = DemandsMet.entries-decide
 -- document 01: "A fresh start makes checks 1 to 5, then clears the needed floats; it takes no memories and gives them at zero, refused or not."
 pub demand-1-start : StartsTabled
 demand-1-start = TableMet.starts-tabled
+
+-- document 01: "Stages stand in one list, at most 16": a stage that is added stands at its end, and where no place is left the list is one that is refused
+pub demand-1-added : StagesAdded
+demand-1-added = Added.stages-added
 
 -- document 01: "Top stages have depth 0", and a delay "owns the stages after it, as many as it says, nested ones counted"
 pub demand-1-top-stages : TopStagesHaveDepth0
