@@ -1,5 +1,5 @@
--- "Stages stand in one list, at most 16": a stage that is added stands at the end of the list, and the others stay where
--- they were. Definitions only.
+-- "Stages stand in one list, at most 16": a stage that is added stands at the end of the list, and the others stay
+-- where they were. Definitions only.
 use mathlib.Core.Path.{_≡_}
 use mathlib.Core.Logic.{_≢_}
 use Prim.Native.Nat.{ℕ, _+_, _≤_, _<_}
@@ -16,7 +16,8 @@ pub record Added (setup : Setup) (stage : Stage) (more : Setup) : Type 0 where
   pub last : stageAt more (setup .count) ≡ stage
   pub others : (i : ℕ) → i ≢ setup .count → stageAt more i ≡ stageAt setup i
 
--- `with` adds its stage to every list that has a place left; where there is none, it makes the count one that is refused
+-- `with` adds its stage to every list that has a place left; where there is none, the count becomes one that is
+-- refused
 pub record WithAdds (setup : Setup) (stage : Stage) : Type 0 where
   pub added : setup .count < 16 → Added setup stage (withStage setup stage)
   pub refused : 16 ≤ setup .count → 16 < withStage setup stage .count
