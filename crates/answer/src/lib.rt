@@ -1,4 +1,6 @@
 // What a call answers: that it was accepted, or the first refusal that applies, with its place.
+#![tactic(auto)]
+
 ghost use Rattle.std.specs.Prelude.{◌≡◌};
 ghost use Rattle.answer.specs.Answer.{number_of, place_of, accepted_of};
 

@@ -1,6 +1,8 @@
 // Functions of the crates `float`, `rounding` and `decibels`, and in effects.rt of the crates above
 // them, for Rust to link: the programs of compare/ compare them with Rust's own. Each calls the function
 // that it is named after and makes the same promise.
+#![tactic(auto)]
+
 ghost use Rattle.std.specs.Prelude.{◌≡◌};
 ghost use Rattle.std.specs.Float.{binary32, binary64};
 ghost use Rattle.rounding.specs.Root.{sqrt_of};

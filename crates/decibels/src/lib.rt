@@ -1,5 +1,7 @@
 // Whole decibels to amplitudes, from two lists in place of kira's `powf`. Each entry is the float
 // nearest to its power of ten: proofs/AmplitudeRules.antt shows it by one computed test over each list.
+#![tactic(auto)]
+
 ghost use Rattle.std.specs.Prelude.{◌≡◌};
 ghost use Rattle.decibels.specs.Amplitude.{amplitude_of, eq_amplitude_of};
 

@@ -1,6 +1,8 @@
 // kira's `Frame`, a pair of f32 by value. Its operations have the names of Rust's operator traits:
 // `a + b` is `a.add(b)`. With them stand mixing a wet with a dry frame, as most effects do, and
 // panning. Each operation rounds once, in the order written in the Rust.
+#![tactic(auto)]
+
 ghost use Rattle.std.specs.Prelude.{◌≡◌};
 ghost use Rattle.frame.specs.Operations.{zero_frame, new_of, from_mono_of, as_mono_of, add_of, sub_of, mul_of, div_of, neg_of};
 ghost use Rattle.frame.specs.Mix.{mix_of};

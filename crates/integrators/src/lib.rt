@@ -2,6 +2,8 @@
 // that g and k give, and the part of a step that renews the two frames. The two frames form one small
 // record. `step` takes and gives it by value; `step_in_place` changes it in place, by calling `step`;
 // `run`, which the filter and the EQ call, makes the record of two frames and lends it.
+#![tactic(auto)]
+
 ghost use Rattle.std.specs.Prelude.{◌≡◌};
 ghost use Rattle.integrators.specs.Integrators.{weights_of, stepped_of};
 

@@ -1,5 +1,7 @@
 // Cases of kira's enums by number, for callers whose language does not know the enum. A case's number
 // is its place in the Rust's enum, counted from 0; a number past the end gives the last case.
+#![tactic(auto)]
+
 ghost use Rattle.std.specs.Prelude.{◌≡◌};
 ghost use Rattle.kind_codes.specs.Codes.{clip_at, mode_at, eq_kind_at};
 

@@ -1,5 +1,7 @@
 // What stages remember besides their lines: how much, and which part each kind uses. Every list place
 // has room for a stage of any kind.
+#![tactic(auto)]
+
 ghost use Rattle.std.specs.Prelude.{◌≡◌, get_or};
 ghost use Rattle.memories.specs.Memories.{zero_memories};
 ghost use Rattle.memories.specs.Kinds.{remembered, remember};

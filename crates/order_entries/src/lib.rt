@@ -1,4 +1,6 @@
 // Refusal 11: which rule an entry of an order breaks, and the first entry that breaks one.
+#![tactic(auto)]
+
 ghost use Rattle.std.specs.Prelude.{◌≡◌, length};
 ghost use Rattle.theory_tables.specs.First.{first_of};
 ghost use Rattle.theory_tables.specs.Condition.{decide};

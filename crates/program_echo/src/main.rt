@@ -1,5 +1,7 @@
 // The library at its shortest: a block of three frames through an echo. README.md shows some of these lines.
 // The program writes the bits of the left samples, which are 0, 1, 1 by document 01's P12.
+#![tactic(auto)]
+
 use answer::number;
 use chain::render::render;
 use float::bits::to_bits_f32;

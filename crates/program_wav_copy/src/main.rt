@@ -1,4 +1,6 @@
 // The WAV program with no stages: the file goes out as it came in, up to the end of its data.
+#![tactic(auto)]
+
 use stage::setup::empty;
 
 fn main() {

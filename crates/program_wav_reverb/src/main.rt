@@ -1,5 +1,7 @@
 // The WAV program with one reverb. It takes rates up to 22,050 Hz, at which a reverb's lines need 12,719
 // floats.
+#![tactic(auto)]
+
 use stage::kind::Stage;
 use stage::setup::{empty, with};
 

@@ -1,6 +1,8 @@
 // kira's `reverb.rs`: on each side eight combs side by side, whose outputs are added up, then four
 // all-passes one after another; then the width and the mix. The left side's twelve lines come before
 // the right side's. Each line is lent alone to its comb or all-pass, and the rest is handed on.
+#![tactic(auto)]
+
 ghost use Rattle.std.specs.Prelude.{◌≡◌, List, ◌+◌, ◌≤◌, Float, length};
 ghost use Rattle.std.proofs.Math.Seq.{slice};
 ghost use Rattle.line.specs.Held.{holds, ran};

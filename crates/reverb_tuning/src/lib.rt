@@ -1,5 +1,7 @@
 // How long a reverb's lines are: Freeverb's numbers for 44,100 Hz, scaled to the rate. The right
 // side's lines come after the left side's, and each has 23 floats more at 44,100 Hz.
+#![tactic(auto)]
+
 ghost use Rattle.std.specs.Prelude.{◌≡◌, get_or, drop};
 ghost use Rattle.reverb_tuning.specs.Tuning.{length_of, reverb_lines, total, reverb_floats};
 

@@ -1,4 +1,6 @@
 // Whether two slices are the same, for programs that compare what two calls left.
+#![tactic(auto)]
+
 ghost use Rattle.std.specs.Prelude.{◌≡◌};
 ghost use Rattle.same_slices.specs.Same.{same_floats, same_numbers};
 

@@ -1,6 +1,8 @@
 // The library that C and Rust link for chains: the crate `chain` with flat arguments, twelve words for each
 // stage, and memories and progress in slices. A host may pass anything: a slice of the wrong length is
 // refused with 101 and words that are no stage with 102, before document 01's checks.
+#![tactic(auto)]
+
 ghost use Rattle.std.specs.Prelude.{◌≡◌, length};
 ghost use Rattle.line.specs.Held.{holds};
 ghost use Rattle.memories.specs.Sizes.{places, all_positions, all_floats};

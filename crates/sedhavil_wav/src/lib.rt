@@ -1,5 +1,7 @@
 // The crates `wav_header` and `wav_samples` for C and Rust to link: the answer to a header as one
 // struct, and blocks of frames.
+#![tactic(auto)]
+
 ghost use Rattle.std.specs.Prelude.{◌≡◌};
 ghost use Rattle.wav_header.specs.Header.{header_of};
 ghost use Rattle.wav_samples.specs.Frames.{whole_frames, samples_in, bytes_out};

@@ -1,6 +1,8 @@
 // A chain read from words of 64 bits, twelve to a stage, for callers whose language does not know `Stage`.
 // Any words may be passed in: `first_unknown` finds those that are no stage. Words that a stage does not use
 // must be 0, so that words in another layout are mostly found out and not misread.
+#![tactic(auto)]
+
 ghost use Rattle.std.specs.Prelude.{◌≡◌, ◌+◌, ◌*◌, ◌<◌};
 ghost use Rattle.theory_tables.specs.First.{first_of};
 ghost use Rattle.theory_tables.specs.Condition.{decide};

@@ -2,6 +2,8 @@
 // frame after frame and stage after stage. Writes two samples that the first way gives, and whether each
 // other way left the same bits. docs/EXAMPLE.md says why it must. What the first way left is then spoilt in
 // one place of each of its parts, which must be other bits: a comparison that sees nothing is seen.
+#![tactic(auto)]
+
 mod echo;
 mod spoilt;
 

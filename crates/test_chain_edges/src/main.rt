@@ -1,6 +1,8 @@
 // Runs the public functions of the crates `chain` and `fresh_start` on both sides of document 01's
 // edges. Writes a line for each case: its name, and the answer's number and place; the last cases add
 // what the call left. The file stdout was written from the document by hand.
+#![tactic(auto)]
+
 mod block;
 mod list;
 mod say;

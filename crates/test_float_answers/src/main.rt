@@ -3,6 +3,8 @@
 // for each operation how many answers are the same, bit for bit with all NaNs counted as one, and at which
 // indices they differ. The last answers of each are spoilt, and so must differ: a comparison that sees
 // nothing is seen.
+#![tactic(auto)]
+
 mod coefficients;
 mod equalized;
 mod floats;

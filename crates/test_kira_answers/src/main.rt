@@ -3,6 +3,8 @@
 // the call leaves are compared, bit for bit with all NaNs counted as one. Writes how many calls were
 // accepted, how many were refused by each number, and how many differ. Then come spoilt cases, which say
 // something wrong in one place each: all of them must differ, so that a comparison that sees nothing is seen.
+#![tactic(auto)]
+
 mod call;
 mod case;
 mod put;

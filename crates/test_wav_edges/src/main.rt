@@ -1,6 +1,8 @@
 // Runs the functions of the crate `sedhavil_wav`, and with it those of `wav_header` and `wav_samples`, on
 // both sides of the edges of document 01's WAV format. Writes a line for each case. The file stdout was
 // written from the document by hand.
+#![tactic(auto)]
+
 mod data;
 mod head;
 mod say;

@@ -1,2 +1,3 @@
 // Theory alone, nothing here runs: why the order in which stages take their steps cannot matter, whatever
 // samples are and whatever stages hold.
+#![tactic(auto)]

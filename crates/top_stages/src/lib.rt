@@ -1,4 +1,6 @@
 // Where the top stages, those that no delay owns, stand in the list.
+#![tactic(auto)]
+
 ghost use Rattle.std.specs.Prelude.{◌≡◌};
 ghost use Rattle.top_stages.specs.Tops.{tops_record};
 

@@ -1,5 +1,7 @@
 // Numbers as a WAV file writes them, the low byte first. Nothing here has a `requires`: a byte past the
 // end counts as 0.
+#![tactic(auto)]
+
 ghost use Rattle.std.specs.Prelude.{◌≡◌, ◌<◌, get_or};
 ghost use Rattle.wav_bytes.specs.Bytes.{two_at, four_at};
 

@@ -1,5 +1,7 @@
 // The 44-byte header of a WAV file: what it says, or document 01's refusal of it. Nothing here has a
 // `requires`: any bytes may be passed in.
+#![tactic(auto)]
+
 ghost use Rattle.std.specs.Prelude.{◌≡◌};
 ghost use Rattle.theory_tables.specs.Condition.{decide};
 ghost use Rattle.wav_header.specs.Header.{header_number, names_wrong, format_wrong, rate_wrong, header_of};

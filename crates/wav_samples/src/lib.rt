@@ -1,5 +1,7 @@
 // The samples of a 16-bit stereo WAV file and the floats that stand for them: one sample, and blocks of
 // frames in slices. No public function here has a `requires`.
+#![tactic(auto)]
+
 pub mod frames;
 mod pcm;
 pub mod sample;

@@ -2,6 +2,8 @@
 // blocks of up to 4,096, and it goes out on standard output with its header as it came. Of a refusal
 // the number is written, alone on a line of the error output. A read error counts as the end of the
 // input. After a failed write nothing more is written, and no message either.
+#![tactic(auto)]
+
 ghost use Rattle.std.specs.Prelude.{true, ◌≡◌, ◌≤◌, ◌<◌, length};
 
 use answer::{is_accepted, number};

@@ -1,0 +1,12 @@
+use mathlib.Core.Path.{sym, ◌∙◌}
+use lib.Ieee.{binary32}
+use borrow.Author.Rules.{rules}
+use Rattle.float.proofs.Nan.{nan_is}
+use Rattle.float.proofs.Patterns.{nan_pattern, no_nan_pattern}
+use Rattle.float.proofs.bits.from_bits_f32.Goals as goal
+
+pub returns-then-bits-gt2139095040 : goal.returns-then-bits-gt2139095040
+returns-then-bits-gt2139095040 c = nan_is binary32 ∙ sym (nan_pattern binary32 c.args.bits c.if-bits-gt2139095040.true)
+
+pub float_from_bits-result : goal.float_from_bits-result
+float_from_bits-result c = no_nan_pattern binary32 c.args.bits c.if-bits-gt2139095040.false

@@ -1,0 +1,12 @@
+use mathlib.Core.Path.{sym, ◌∙◌}
+use lib.Ieee.{binary64}
+use borrow.Author.Rules.{rules}
+use Rattle.float.proofs.Nan.{nan_is}
+use Rattle.float.proofs.Patterns.{nan_pattern, no_nan_pattern}
+use Rattle.float.proofs.bits.from_bits_f64.Goals as goal
+
+pub returns-then-bits-gt9218868437227405312 : goal.returns-then-bits-gt9218868437227405312
+returns-then-bits-gt9218868437227405312 c = nan_is binary64 ∙ sym (nan_pattern binary64 c.args.bits c.if-bits-gt9218868437227405312.true)
+
+pub float_from_bits-result : goal.float_from_bits-result
+float_from_bits-result c = no_nan_pattern binary64 c.args.bits c.if-bits-gt9218868437227405312.false

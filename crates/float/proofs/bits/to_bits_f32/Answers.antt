@@ -1,0 +1,12 @@
+use mathlib.Core.Path.{sym, ap}
+use lib.Ieee.{binary32, to_bits}
+use borrow.Author.Rules.{rules}
+use Rattle.float.proofs.Nan.{is_nan_lem, not_nan}
+use Rattle.float.proofs.bits.to_bits_f32.Goals as goal
+
+pub returns-then-x : goal.returns-then-x
+unfolding to_bits
+returns-then-x c = ap (to_bits binary32) (sym (is_nan_lem c.args.x c.if-x.true))
+
+pub float_to_bits-result : goal.float_to_bits-result
+float_to_bits-result c = not_nan c.args.x c.if-x.false
