@@ -5,7 +5,7 @@ ghost use Rattle.std.specs.Prelude.{◌≡◌};
 ghost use Rattle.answer.specs.Answer.{number_of, place_of, accepted_of};
 
 // Accepted, or one of document 01's eleven refusals with its place, which is 0 where none is written.
-#[derive(Drop)]
+#[derive(Clone, Copy)]
 pub enum Answer {
     Accepted,
     // 1: the rate is below 8,000 or above 192,000

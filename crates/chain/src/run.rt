@@ -10,7 +10,7 @@ use stage::setup::Setup;
 
 // What a call gives back: its answer, and the memories and progress after it. Where the call is refused,
 // these are what was passed in.
-#[derive(Drop)]
+#[derive(Clone, Copy)]
 pub struct Outcome {
     pub answer: Answer,
     pub memories: Memories,

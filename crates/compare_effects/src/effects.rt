@@ -17,7 +17,7 @@ use kind_codes::{clip_at, eq_kind_at, mode_at};
 
 // A frame.
 #[repr(C)]
-#[derive(Drop)]
+#[derive(Clone, Copy)]
 pub struct Pair {
     pub left: f32,
     pub right: f32,
@@ -25,7 +25,7 @@ pub struct Pair {
 
 // The two frames that a filter or an EQ remembers.
 #[repr(C)]
-#[derive(Drop)]
+#[derive(Clone, Copy)]
 pub struct Memory {
     pub ic1eq: Pair,
     pub ic2eq: Pair,
@@ -33,7 +33,7 @@ pub struct Memory {
 
 // What a filter or an EQ gives: the frame that comes out, and the two frames remembered after it.
 #[repr(C)]
-#[derive(Drop)]
+#[derive(Clone, Copy)]
 pub struct Processed {
     pub output: Pair,
     pub after: Memory,
@@ -41,7 +41,7 @@ pub struct Processed {
 
 // The weights a1, a2 and a3.
 #[repr(C)]
-#[derive(Drop)]
+#[derive(Clone, Copy)]
 pub struct Three {
     pub a1: f64,
     pub a2: f64,
@@ -50,7 +50,7 @@ pub struct Three {
 
 // An EQ's six coefficients.
 #[repr(C)]
-#[derive(Drop)]
+#[derive(Clone, Copy)]
 pub struct Six {
     pub a1: f64,
     pub a2: f64,

@@ -13,7 +13,7 @@ use rounding::sqrt::sqrt_f64;
 
 // kira's `EqFilterKind`: the gain applies around a frequency (bell), around and below it (low shelf) or
 // around and above it (high shelf).
-#[derive(Drop)]
+#[derive(Clone, Copy)]
 pub enum EqFilterKind {
     Bell,
     LowShelf,
@@ -21,7 +21,7 @@ pub enum EqFilterKind {
 }
 
 // kira's `Coefficients`: a1, a2 and a3 weigh the step, m0, m1 and m2 weigh the frame, v1 and v2.
-#[derive(Drop)]
+#[derive(Clone, Copy)]
 pub struct Coefficients {
     pub a1: f64,
     pub a2: f64,

@@ -12,7 +12,7 @@ use float::clamp::{clamp_signed_unit_f32, clamp_unit_f32};
 use rounding::sqrt::sqrt_f32;
 
 // kira's `Frame`: a left and a right sample, any two floats, NaN and infinities included.
-#[derive(Drop)]
+#[derive(Clone, Copy)]
 pub struct Frame {
     pub left: f32,
     pub right: f32,

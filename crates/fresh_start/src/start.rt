@@ -12,7 +12,7 @@ use refusals::chain::check_chain;
 use stage::setup::Setup;
 
 // What a fresh start gives: its answer, and memories at zero, refused or not.
-#[derive(Drop)]
+#[derive(Clone, Copy)]
 pub struct Started {
     pub answer: Answer,
     pub memories: Memories,

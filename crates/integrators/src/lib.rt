@@ -10,35 +10,35 @@ ghost use Rattle.integrators.specs.Integrators.{weights_of, stepped_of};
 use frame::Frame;
 
 // The two frames that a filter or an EQ remembers, by kira's names.
-#[derive(Drop)]
+#[derive(Clone, Copy)]
 pub struct Integrators {
     pub ic1eq: Frame,
     pub ic2eq: Frame,
 }
 
 // What a step makes of its input, by kira's names: v1 is what a band-pass lets through, v2 a low-pass.
-#[derive(Drop)]
+#[derive(Clone, Copy)]
 pub struct Parts {
     pub v1: Frame,
     pub v2: Frame,
 }
 
 // What a step gives: the two parts, and the two frames remembered after it.
-#[derive(Drop)]
+#[derive(Clone, Copy)]
 pub struct Stepped {
     pub parts: Parts,
     pub after: Integrators,
 }
 
 // What a filter or an EQ gives: the frame that comes out, and the two frames remembered after it.
-#[derive(Drop)]
+#[derive(Clone, Copy)]
 pub struct Filtered {
     pub output: Frame,
     pub after: Integrators,
 }
 
 // kira's a1, a2 and a3, in f64 as the Rust works them out.
-#[derive(Drop)]
+#[derive(Clone, Copy)]
 pub struct Weights {
     pub a1: f64,
     pub a2: f64,

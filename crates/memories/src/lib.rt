@@ -34,7 +34,7 @@ pub const ALL_POSITIONS: usize = PLACES * PLACE_POSITIONS;
 pub const ALL_FLOATS: usize = PLACES * PLACE_FLOATS;
 
 // What all stages remember, place after place. A call takes memories by value and gives them back.
-#[derive(Drop)]
+#[derive(Clone, Copy)]
 pub struct Memories {
     pub positions: [usize; ALL_POSITIONS],
     pub floats: [f32; ALL_FLOATS],

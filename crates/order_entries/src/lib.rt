@@ -10,7 +10,7 @@ use answer::Answer;
 use memories::{PLACES, number_at};
 
 // The rule that an entry of an order breaks, if any.
-#[derive(Drop)]
+#[derive(Clone, Copy)]
 pub enum Rule {
     Unbroken,
     // it names no top stage

@@ -19,7 +19,7 @@ use top_stages::{Tops, tops_of};
 
 // What the checks give: the answer, where lines start (line_layout::starts::starts_of), and the top stages
 // (top_stages::tops_of).
-#[derive(Drop)]
+#[derive(Clone, Copy)]
 pub struct Checked {
     pub answer: Answer,
     pub starts: [usize; ENDS],

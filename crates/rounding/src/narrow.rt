@@ -16,8 +16,8 @@ pub(crate) fn lesser(a: u64, b: u64) -> u64
 
 // The f32 nearest to the finite f64 with this exponent field and these digits, as bits without a sign.
 fn narrowed(field: u64, digits: u64) -> u64
-    requires fact_1 { field < 2047 }
-    requires fact_2 { digits < 0x10_0000_0000_0000 }
+    requires field_small { field < 2047 }
+    requires digits_small { digits < 0x10_0000_0000_0000 }
     ensures { ((s : Bool) → of_bits binary32 (cond s (2 ^ 31) 0 + result) ≡ narrow_of binary32 (of_fields binary64 s field digits)) × (result ≤ 0x7f80_0000) }
 {
     if field < 873 {

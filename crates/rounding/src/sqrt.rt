@@ -8,13 +8,13 @@ ghost use Rattle.rounding.specs.Inner.{Rooted, Rootable, ScaledRoot};
 
 use crate::narrow::lesser;
 
-#[derive(Drop)]
+#[derive(Clone, Copy)]
 struct Root {
     digits: u64,
     rest: u64,
 }
 
-#[derive(Drop)]
+#[derive(Clone, Copy)]
 struct Scaled {
     digits: u64,
     places: u64,
@@ -72,8 +72,8 @@ fn scaled_root(q: u64, j: u64, p: u64) -> Scaled
 
 // The bits of the root of the f32 with the bits b, which is finite and above 0.
 fn root_bits_f32(b: u64) -> u64
-    requires fact_1 { 0 < b }
-    requires fact_2 { b < 0x7f80_0000 }
+    requires positive { 0 < b }
+    requires finite { b < 0x7f80_0000 }
     ensures { (of_bits binary32 result ≡ sqrt_of binary32 (of_bits binary32 b)) × (result ≤ 0x7f80_0000) }
 {
     let field = b / 0x80_0000;
@@ -88,8 +88,8 @@ fn root_bits_f32(b: u64) -> u64
 
 // The bits of the root of the f64 with the bits b, which is finite and above 0.
 fn root_bits_f64(b: u64) -> u64
-    requires fact_1 { 0 < b }
-    requires fact_2 { b < 0x7ff0_0000_0000_0000 }
+    requires positive { 0 < b }
+    requires finite { b < 0x7ff0_0000_0000_0000 }
     ensures { (of_bits binary64 result ≡ sqrt_of binary64 (of_bits binary64 b)) × (result ≤ 0x7ff0_0000_0000_0000) }
 {
     let field = b / 0x10_0000_0000_0000;

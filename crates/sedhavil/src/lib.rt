@@ -24,7 +24,7 @@ use stage_words::WORDS;
 // and 102 are calls that cannot be read: 101's place is a slice (0 stages, 1 positions, 2 floats, 3
 // progress), 102's is a list place. The other numbers and their places are document 01's.
 #[repr(C)]
-#[derive(Drop)]
+#[derive(Clone, Copy)]
 pub struct Reply {
     pub number: u32,
     pub place: usize,
@@ -32,7 +32,7 @@ pub struct Reply {
 
 // How many floats a store needs, where the number is 0. A refusal comes with 0 floats.
 #[repr(C)]
-#[derive(Drop)]
+#[derive(Clone, Copy)]
 pub struct Room {
     pub number: u32,
     pub place: usize,

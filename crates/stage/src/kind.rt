@@ -9,7 +9,7 @@ use plain_effects::distortion::DistortionKind;
 
 // A stage with its settings, in document 01's units: volume, drive, gain and a delay's feedback are whole
 // dB, and g is a tangent. Any numbers may be written here; `range::in_range` says which are accepted.
-#[derive(Drop)]
+#[derive(Clone, Copy)]
 pub enum Stage {
     VolumeControl {
         volume: i32,
@@ -50,7 +50,7 @@ pub enum Stage {
 }
 
 // The lines of a stage.
-#[derive(Drop)]
+#[derive(Clone, Copy)]
 pub enum Lines {
     NoLines,
     // A reverb's 24 lines, whose lengths follow from the rate.
@@ -60,7 +60,7 @@ pub enum Lines {
 }
 
 // What a stage has besides its settings: the `owned` stages after it, and its lines.
-#[derive(Drop)]
+#[derive(Clone, Copy)]
 pub struct Holding {
     pub owned: usize,
     pub lines: Lines,

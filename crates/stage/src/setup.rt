@@ -10,14 +10,14 @@ use memories::PLACES;
 pub const ENDS: usize = PLACES + 1;
 
 // A list place: a stage with its settings. It is a record so that more can be said of a place later.
-#[derive(Drop)]
+#[derive(Clone, Copy)]
 pub struct Slot {
     pub stage: Stage,
 }
 
 // A chain: its rate in frames a second, how many stages it has, and their places. The first `count` slots
 // are its stages, and the others do not matter. A call refuses a count above 16.
-#[derive(Drop)]
+#[derive(Clone, Copy)]
 pub struct Setup {
     pub rate: u32,
     pub count: usize,

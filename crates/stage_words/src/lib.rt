@@ -18,7 +18,7 @@ use stage::setup::{Setup, Slot};
 pub const WORDS: usize = 12;
 
 // A stage's kind and its numbers, and how many of its words are left without the zeros at their end.
-#[derive(Drop)]
+#[derive(Clone, Copy)]
 struct StageWords {
     kind: u64,
     a: u64,

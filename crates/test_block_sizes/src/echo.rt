@@ -7,7 +7,7 @@ use stage::kind::Stage;
 use stage::setup::{Setup, empty, with};
 
 // What one way of running the echo leaves.
-#[derive(Drop)]
+#[derive(Clone, Copy)]
 pub(crate) struct Ended {
     pub samples: [f32; 8192],
     pub store: [f32; 200],

@@ -5,7 +5,7 @@ use crate::frames;
 use float::bits::{from_bits_f32, to_bits_f32};
 use frame::Frame;
 
-#[derive(Drop)]
+#[derive(Clone, Copy)]
 pub(crate) enum Operation {
     Zero,
     New,

@@ -14,7 +14,7 @@ mod sample;
 
 use libc::STDOUT_FILENO;
 
-#[derive(Drop)]
+#[derive(Clone, Copy)]
 enum Operation {
     SqrtF32,
     SqrtF64,

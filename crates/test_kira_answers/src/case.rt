@@ -14,7 +14,7 @@ use libc::STDIN_FILENO;
 use sedhavil::Room;
 
 // All that a call may change, each with room for the longest slice of a case.
-#[derive(Drop)]
+#[derive(Clone, Copy)]
 pub(crate) struct Held {
     pub samples: [f32; 8194],
     pub store: [f32; 16384],
@@ -24,13 +24,13 @@ pub(crate) struct Held {
 }
 
 // What came of a call.
-#[derive(Drop)]
+#[derive(Clone, Copy)]
 struct Answered {
     held: Held,
     room: Room,
 }
 
-#[derive(Drop)]
+#[derive(Clone, Copy)]
 pub(crate) struct Judged {
     pub number: usize,
     pub is_same: bool,

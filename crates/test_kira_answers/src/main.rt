@@ -19,7 +19,7 @@ use libc::{STDIN_FILENO, STDOUT_FILENO};
 
 // The calls so far: how many had each number as their answer, how many differ, and which was the first to
 // differ and the first to be the same.
-#[derive(Drop)]
+#[derive(Clone, Copy)]
 struct Tally {
     answers: [u64; 14],
     differences: u64,

@@ -8,7 +8,7 @@ mod head;
 mod say;
 
 // The lists of cases that are run by number.
-#[derive(Drop)]
+#[derive(Clone, Copy)]
 enum Cases {
     Cuts,
     Faults,

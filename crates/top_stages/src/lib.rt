@@ -7,7 +7,7 @@ ghost use Rattle.top_stages.specs.Tops.{tops_record};
 use stage::setup::{ENDS, Setup, next_place, used};
 
 // The top stages of a chain: where they stand, and how many there are (`n`).
-#[derive(Drop)]
+#[derive(Clone, Copy)]
 pub struct Tops {
     // the list place of each top stage, then where the last one ends; 0 beyond
     pub places: [usize; ENDS],

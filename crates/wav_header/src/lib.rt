@@ -18,7 +18,7 @@ const FMT: u32 = 0x2074_6d66;
 const DATA: u32 = 0x6174_6164;
 
 // The answer to a header: what it says, or one of document 01's refusals.
-#[derive(Drop)]
+#[derive(Clone, Copy)]
 pub enum Header {
     // The rate, and the bytes of data to come.
     Read { rate: u32, size: u32 },

@@ -19,8 +19,8 @@ pub fn sample_in(s: i16) -> f32
 // the even one, and at most 32768; 0 for NaN. A float with a field of 127 or more is 1 or more; one with
 // a field below 111 is less than half of 1 / 32768.
 fn steps(field: u64, digits: u64) -> u64
-    requires fact_1 { field < 256 }
-    requires fact_2 { digits < 2 ^ 23 }
+    requires field_small { field < 256 }
+    requires digits_small { digits < 2 ^ 23 }
     ensures { ((s : Bool) → result ≡ steps_of (of_fields binary32 s field digits)) × (result ≤ 32768) }
 {
     if field == 255 {

@@ -17,7 +17,7 @@ use wav_header::Header;
 use wav_samples::frames::{frames_in, frames_out};
 
 // What there is after a block: the memories, how many bytes of data are left, and whether to go on.
-#[derive(Drop)]
+#[derive(Clone, Copy)]
 struct Turn {
     memories: Memories,
     remaining: usize,
@@ -51,8 +51,8 @@ fn render_block(
     frames: usize,
     store: &mut [f32],
 ) -> Outcome
-    requires fact_1 { frames ≤ 4096 }
-    requires fact_2 { length samples.old ≡ 8192 }
+    requires few_frames { frames ≤ 4096 }
+    requires room { length samples.old ≡ 8192 }
 {
     let n = 2 * frames;
     render(setup, &mut samples[..n], memories, store, [0; PLACES])
@@ -61,8 +61,8 @@ fn render_block(
 // Writes these frames, or the number of the refusal, and returns whether to go on. After the frames of a
 // block that was cut short it writes number 25.
 fn write_block(refused: u32, samples: &[f32], bytes: &mut [u8], frames: usize, is_cut: bool) -> bool
-    requires fact_1 { frames ≤ 4096 }
-    requires fact_2 { length bytes.old ≡ 16384 }
+    requires few_frames { frames ≤ 4096 }
+    requires room { length bytes.old ≡ 16384 }
 {
     if refused > 0 {
         say(refused);
@@ -90,8 +90,8 @@ fn block(
     samples: &mut [f32],
     store: &mut [f32],
 ) -> Turn
-    requires fact_1 { 0 < remaining }
-    requires fact_2 { (length bytes.old ≡ 16384) × (length samples.old ≡ 8192) }
+    requires some_left { 0 < remaining }
+    requires room { (length bytes.old ≡ 16384) × (length samples.old ≡ 8192) }
     ensures { result.more ≡ true → result.remaining < remaining }
 {
     let want = block_bytes(remaining);

@@ -1,0 +1,22 @@
+use mathlib.Core.Path.{◌≡◌, sym, ap, ◌∙◌}
+use Prim.Native.Nat.{ℕ, ◌+◌, ◌-◌}
+use native.Mathlib.Omega.{arith}
+use borrow.Author.Rules.{rules}
+use lib.ListN.{get_or, get_or-eq_default}
+use Rattle.reverb_tuning.specs.Tuning.{tunings, reverb_lines}
+use Rattle.reverb_tuning.proofs.Tunings.{at_most_total, lines_length, left_line, right_line}
+use Rattle.reverb_tuning.proofs.reverb_line.Goals as goal
+
+pub returns-then-k-lt-SIDE_LINES : goal.returns-then-k-lt-SIDE_LINES
+returns-then-k-lt-SIDE_LINES c = c.line_length.ensures ∙ sym (left_line c.args.rate c.args.k (omega arith))
+
+pub returns-then-k-lt-LINES : goal.returns-then-k-lt-LINES
+returns-then-k-lt-LINES c =
+    let a = c.args in
+    let e : 12 + (a.k - 12) ≡ a.k = omega arith in
+    c.line_length-then-k-lt-LINES.ensures ∙ sym (right_line a.rate (a.k - 12) (omega arith)) ∙ ap (λ (n : ℕ). get_or (reverb_lines a.rate) n 0) e
+
+pub returns : goal.returns
+returns c =
+    let a = c.args in
+    sym (get_or-eq_default (reverb_lines a.rate) 0 {n = a.k} (omega (arith, lines_length a.rate)))

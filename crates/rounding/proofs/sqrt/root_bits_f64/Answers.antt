@@ -1,0 +1,17 @@
+use mathlib.Core.Path.{ap, ◌∙◌}
+use mathlib.Core.Logic.{⊎_elim, inl, inr}
+use native.Mathlib.Omega.{arith}
+use borrow.Author.Rules.{rules}
+use lib.Ieee.{binary64, of_bits}
+use Rattle.rounding.proofs.RootLaw.{Found, found}
+use Rattle.rounding.proofs.sqrt.root_bits_f64.Goals as goal
+use Rattle.rounding.proofs.sqrt.root_bits_f64.Goals.{Joined-field-eq0, then-field-eq0, else-field-eq0}
+
+-- where the ways meet, the digits and the places are those of the root
+joined : (c : Joined-field-eq0) → Found binary64 c.args.b c.if-field-eq0.root.digits c.if-field-eq0.root.places
+joined c =
+    found binary64 c.args.b c.if-field-eq0.root.digits c.if-field-eq0.root.places c.requires.positive c.requires.finite
+    (elim c.if-field-eq0.branch [ then-field-eq0 w ↦ inl (w.if-field-eq0.true, rw w.root-is w.scaled_root-root.ensures) | else-field-eq0 w ↦ inr (w.if-field-eq0.false, rw w.root-is w.scaled_root-root-else-field-eq0.ensures) ])
+
+pub returns : goal.returns
+returns c = (ap (of_bits binary64) c.lesser.ensures ∙ (joined (goal.at.returns c).Joined-field-eq0).0, omega (arith, c.lesser.ensures))

@@ -1,0 +1,18 @@
+-- The loop's invariant: both are of one length, and the places passed are the same. The measure is what is left of them. Assumes nothing.
+use mathlib.Core.Path.{sym, ◌∙◌}
+use Prim.Native.Nat.{◌-◌}
+use native.Mathlib.Omega.{arith}
+use borrow.Author.Count.{below_more}
+use lib.Ieee.{binary32, nan, to_bits}
+use lib.ListN.{length}
+use Rattle.same_slices.proofs.Sames.{Passed, other_length, differs, agrees}
+use Rattle.same_slices.proofs.floats.Goals as goal
+
+pub returns-then-a-b : goal.returns-then-a-b
+returns-then-a-b c = other_length (to_bits binary32) c.args.a.now c.args.b.now c.if-a-b.true
+
+pub returns-then-to_bits_f32 : goal.returns-then-to_bits_f32
+returns-then-to_bits_f32 c = differs (to_bits binary32) nan c.args.a.now c.args.b.now c.loop-i.i (omega arith) c.loop-i.invariant.1 (λ e. c.if-to_bits_f32.true (c.to_bits_f32.ensures ∙ e ∙ sym c.to_bits_f32-in-loop-i.ensures))
+
+pub returns : goal.returns
+returns c = agrees (to_bits binary32) nan c.args.a.now c.args.b.now c.loop-i.invariant.1 (λ k h. c.loop-i.invariant.2 k (omega arith))
