@@ -1,0 +1,11 @@
+use borrow.Author.Rules.{rules}
+use lib.Ieee.{of_bits, round}
+use Rattle.float.specs.Literal.{literal}
+use Rattle.frame.specs.Mix.{mix_of}
+use Rattle.frame.proofs.Frame.mixed.Goals as goal
+
+pub returns : goal.returns
+unfolding mix_of literal round of_bits
+returns c =
+    rw
+    (c.add.ensures, c.mul.ensures, c.sqrt_f32-2.ensures, c.mul-wet.ensures, c.sqrt_f32.ensures, c.clamp_unit_f32-clamped.ensures)

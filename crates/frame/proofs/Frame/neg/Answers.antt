@@ -1,0 +1,7 @@
+use mathlib.Core.Path.{refl}
+use Rattle.frame.specs.Operations.{neg_of}
+use Rattle.frame.proofs.Frame.neg.Goals as goal
+
+pub returns : goal.returns
+unfolding neg_of
+returns c = refl

@@ -1,0 +1,7 @@
+use mathlib.Core.Path.{sym, ◌∙◌}
+use borrow.Author.Rules.{rules}
+use Rattle.reverb_tuning.proofs.Tunings.{floats_are}
+use Rattle.reverb_tuning.proofs.reverb_floats.Goals as goal
+
+pub returns : goal.returns
+returns c = c.floats_from.ensures ∙ sym (floats_are c.args.rate)
