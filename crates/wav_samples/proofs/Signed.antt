@@ -18,7 +18,7 @@ use Rattle.wav_samples.specs.Sample.{steps_of, negative, held_of, sample_out}
 
 -- what is written and read back
 pub came : {z y : ℤ} → z ≡ y → mag y < 32768 → to_z w16 (of_z w16 z) ≡ y
-came {z} {y} e h = ap (λ (x : ℤ). to_z w16 (of_z w16 x)) e ∙ to_z-of_z (record { sfits = h })
+came {z} {y} e h = ap (λ (x : ℤ). to_z w16 (of_z w16 x)) e ∙ to_z-of_z {w = w16} (record { sfits = h })
 
 pub read_back : (z : ℤ) → mag z < 32768 → to_z w16 (of_z w16 z) ≡ z
 read_back z h = came refl h

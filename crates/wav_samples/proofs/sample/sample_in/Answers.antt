@@ -1,0 +1,8 @@
+-- `sample::sample_in` meets its contract: the division is of two floats that are whole numbers. Assumes nothing.
+use borrow.Author.Rules.{rules}
+use Rattle.wav_samples.proofs.Steps.{in_is}
+use Rattle.wav_samples.proofs.Signed as sg
+use Rattle.wav_samples.proofs.sample.sample_in.Goals as goal
+
+pub returns : goal.returns
+returns c = rw (sg.read_back c.args.s c.ranges.s.sfits) (in_is c.args.s c.ranges.s.sfits)
