@@ -7,5 +7,4 @@ use Rattle.line.proofs.all_pass.process.Goals as goal
 pub returns : goal.returns
 unfolding passed_of pass_line_of literal round of_bits
 returns c =
-    let read = stored in
-    (rw (read.next_position-next.ensures, read.float_at-buffer_output.ensures), rw (c.put_float.ensures, read.float_at-buffer_output.ensures))
+    (rw (c.next_position-next.ensures, c.float_at-buffer_output.ensures), rw (c.put_float.ensures, c.float_at-buffer_output.ensures))

@@ -7,5 +7,4 @@ use Rattle.line.proofs.comb.process.Goals as goal
 pub returns : goal.returns
 unfolding store_of combed_of comb_line_of literal round of_bits
 returns c =
-    let read = stored in
-    (rw (read.next_position-next.ensures, read.float_at-output.ensures), rw (c.put_float.ensures, read.float_at-output.ensures))
+    (rw (c.next_position-next.ensures, c.float_at-output.ensures), rw (c.put_float.ensures, c.float_at-output.ensures))
