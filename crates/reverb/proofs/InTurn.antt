@@ -5,7 +5,7 @@ use Prim.Native.Nat.{ℕ, ◌+◌, ◌≤◌, ◌<◌}
 use native.Mathlib.Numerals.{add-one}
 use native.Mathlib.Omega.{arith}
 use lib.Ieee.{Float, nan, binary32, add}
-use lib.ListN.{length, get_or, set, take, drop}
+use lib.ListN.{length, get_or, set, take, drop, length-drop, length-append}
 use lib.Seq.{length-take-le, slice, slice_empty, slice-cons, get_or-take}
 use Rattle.line.specs.declared.all_pass.Passed.{Passed}
 use Rattle.line.specs.declared.comb.Combed.{Combed}
@@ -16,6 +16,10 @@ use Rattle.line.proofs.Lent.{lent, home, rest_lent, rest_home, first_lent, first
 use Rattle.reverb_tuning.specs.Tuning.{total}
 use Rattle.reverb_tuning.proofs.Tunings.{total_more}
 use Rattle.reverb.specs.Reverb.{Heard, heard, comb_of, pass_of, lines_in_turn}
+
+-- a stretch is as long as before while its front is lent
+pub whole : {A : Type 0} (n : ℕ) (line store : List A) → n ≤ length store → length line ≡ length (take n store) → length (line ++ drop n store) ≡ length store
+whole n line store h same = omega (arith, same, length-take-le n store h, length-drop n store, length-append line (drop n store))
 
 -- the lines from k up to e: what they have together
 pub lines_floats : (l : List ℕ) (k e : ℕ) → k < e → e ≤ length l → total (slice k e l) ≡ get_or l k 0 + total (slice (k + 1) e l)

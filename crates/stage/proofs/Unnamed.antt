@@ -1,24 +1,21 @@
--- The kinds that a `match` does not name, by their tags: but for a reverb and a delay none holds anything. Assumes nothing.
-use mathlib.Core.Path.{◌≡◌, refl}
-use mathlib.Core.List.{List, [], ◌∷◌}
-use Prim.Native.Nat.{ℕ}
-use types.Run.{OneOf, miss}
-use denote.Enum.Declared.{tag_of}
-use Rattle.stage.specs.contracts.kind.Stage.{the_type}
+-- The kinds that a `match` does not name: but for a reverb and a delay none holds anything. Assumes nothing.
+use Rattle.std.proofs.Common.{◌≡◌, ℕ, refl}
+use lib.IntN.{ℤ}
+use lib.Ieee.{Float}
 use Rattle.stage.specs.declared.kind.Stage.{Stage}
 use Rattle.stage.specs.declared.kind.Stage.TheVariants.{VolumeControl, PanningControl, Distortion, Filter, EqFilter, Reverb, Delay}
 use Rattle.stage.specs.declared.kind.Lines.TheVariants.{NoLines}
 use Rattle.stage.specs.Holding.{holding, holding_of}
 
-abbrev unnamed : List ℕ
-unnamed = 0 ∷ 1 ∷ 2 ∷ 3 ∷ 4 ∷ []
-
-pub holds_none : (s : Stage) → OneOf unnamed (tag_of the_type s) → holding 0 NoLines ≡ holding_of s
+pub holds_none : (s : Stage)
+    → ((feedback damping width mix : Float) → s ≡ Reverb feedback damping width mix → ⊥)
+    → ((frames : ℕ) (feedback : ℤ) (mix : Float) (owned : ℕ) → s ≡ Delay frames feedback mix owned → ⊥)
+    → holding 0 NoLines ≡ holding_of s
 unfolding holding_of
-holds_none (VolumeControl volume) k = refl
-holds_none (PanningControl panning) k = refl
-holds_none (Distortion kind drive mix) k = refl
-holds_none (Filter mode g resonance mix) k = refl
-holds_none (EqFilter kind g gain q) k = refl
-holds_none (Reverb feedback damping width mix) k = absurd (miss unnamed 5 tt k)
-holds_none (Delay frames feedback mix owned) k = absurd (miss unnamed 6 tt k)
+holds_none (VolumeControl volume) r d = refl
+holds_none (PanningControl panning) r d = refl
+holds_none (Distortion kind drive mix) r d = refl
+holds_none (Filter mode g resonance mix) r d = refl
+holds_none (EqFilter kind g gain q) r d = refl
+holds_none (Reverb feedback damping width mix) r d = absurd (r feedback damping width mix refl)
+holds_none (Delay frames feedback mix owned) r d = absurd (d frames feedback mix owned refl)

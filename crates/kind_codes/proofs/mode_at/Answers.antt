@@ -1,0 +1,20 @@
+-- The tests on the code pick the case as the definition does. Assumes nothing.
+use borrow.Author.Tests.{eq-eqb, ne_eqb}
+use Rattle.kind_codes.specs.Codes.{mode_at}
+use Rattle.kind_codes.proofs.mode_at.Goals as goal
+
+pub returns-then-code-eq0 : goal.returns-then-code-eq0
+unfolding mode_at
+returns-then-code-eq0 c = simp (eq-eqb _ _ c.if-code-eq0.true)
+
+pub returns-then-code-eq1 : goal.returns-then-code-eq1
+unfolding mode_at
+returns-then-code-eq1 c = simp (ne_eqb _ _ c.if-code-eq0.false, eq-eqb _ _ c.if-code-eq1.true)
+
+pub returns-then-code-eq2 : goal.returns-then-code-eq2
+unfolding mode_at
+returns-then-code-eq2 c = simp (ne_eqb _ _ c.if-code-eq0.false, ne_eqb _ _ c.if-code-eq1.false, eq-eqb _ _ c.if-code-eq2.true)
+
+pub returns : goal.returns
+unfolding mode_at
+returns c = simp (ne_eqb _ _ c.if-code-eq0.false, ne_eqb _ _ c.if-code-eq1.false, ne_eqb _ _ c.if-code-eq2.false)

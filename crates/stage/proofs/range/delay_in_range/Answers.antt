@@ -1,0 +1,10 @@
+-- `range::delay_in_range` meets its contract: a whole number that fits 32 bits is read back as it is. Assumes nothing.
+use mir.Syntax.{w32}
+use mir.ValLaws.{to_z-of_z}
+use Rattle.stage.specs.Range.{delay_range}
+use borrow.Author.Rules.{rules}
+use Rattle.stage.proofs.range.delay_in_range.Goals as goal
+
+pub returns : goal.returns
+unfolding delay_range
+returns c = rw (c.is_finite_f32.ensures, to_z-of_z w32 c.args.feedback c.ranges.feedback)
