@@ -12,7 +12,7 @@ use Rattle.top_stages.proofs.tops_of.Goals as goal
 
 pub loop-i-init : goal.loop-i-init
 loop-i-init c =
-    let p = c.args.t1 in (
+    let p = c.args.setup in (
       c.used-end.ensures,
       omega arith,
       omega arith,
@@ -27,7 +27,7 @@ loop-i-init c =
 
 pub loop-i-preserved : goal.loop-i-preserved
 loop-i-preserved c =
-    let p = c.args.t1 in
+    let p = c.args.setup in
     let at = c.loop-i in
     let here = at.invariant.4 in
     let next = c.next_place-i.ensures.0 ∙ ap (next_place _ at.i) at.invariant.0 ∙ top_more p at.n at.i here in
@@ -42,7 +42,7 @@ loop-i-preserved c =
 
 pub returns : goal.returns
 returns c =
-    let p = c.args.t1 in
+    let p = c.args.setup in
     let at = c.loop-i in
     let all : at.n ≡ tops_of p = tops_are p at.n at.invariant.3 (omega arith) in
     written_all p at.n at.places at.invariant.5 all
