@@ -1,0 +1,30 @@
+-- `shape::depth` meets its contract. The loop's invariant: n counts the owners among the places passed. The measure is i - j. Assumes nothing.
+use mathlib.Core.Path.{◌≡◌, refl, ap, ◌∙◌}
+use mathlib.Core.Bool.{Bool, cond}
+use mathlib.Core.Logic.{⊎_elim}
+use Prim.Native.Nat.{ℕ, ◌+◌, ◌-◌, ◌≤◌}
+use native.Mathlib.Omega.{arith}
+use native.Mathlib.Numerals.{add-one}
+use borrow.Author.Rules.{rules}
+use Rattle.theory_tables.specs.Condition.{decide}
+use Rattle.stage.specs.declared.setup.Setup.{Setup}
+use Rattle.refusals.specs.Shape.{owns, depth_of}
+use Rattle.refusals.proofs.shape.depth.Goals as goal
+
+-- one more stage, which owns the one at i or does not
+depth_more : (setup : Setup) (i j : ℕ) {owner : Bool} → owner ≡ decide (owns setup j i) → depth_of setup i (j + 1) ≡ depth_of setup i j + cond owner 1 0
+unfolding depth_of
+depth_more setup i j e = ap (depth_of setup i) (add-one j) ∙ rw e
+
+pub loop-j-init : goal.loop-j-init
+unfolding depth_of
+loop-j-init c = (omega arith, omega arith, refl)
+
+pub loop-j-preserved : goal.loop-j-preserved
+loop-j-preserved c =
+    let a = c.args in
+    let more = depth_more a.setup a.i c.loop-j.j c.is_owner.ensures in
+    ⊎_elim
+    (λ w. (omega arith, omega arith, omega (arith, rw w.0.taken at more)))
+    (λ w. (omega arith, omega arith, omega (arith, rw w.0.left at more)))
+    c.if-is_owner.branch

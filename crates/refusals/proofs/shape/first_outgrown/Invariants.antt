@@ -1,0 +1,15 @@
+-- `shape::first_outgrown` meets its contract: it has looked at the numbers below j. The measure is what is left to look at. Assumes nothing.
+use mathlib.Core.Path.{sym, ◌∙◌}
+use Prim.Native.Nat.{◌-◌}
+use native.Mathlib.Omega.{arith}
+use borrow.Author.Rules.{rules}
+use Rattle.theory_tables.specs.Condition.{decide}
+use Rattle.theory_tables.proofs.Firsts.{Looked, look_start, look_on, look_found, look_over}
+use Rattle.refusals.specs.Shape.{outgrows}
+use Rattle.refusals.proofs.shape.first_outgrown.Given as goal
+
+abbrev pub invariant-loop-j : goal.invariant-loop-j
+invariant-loop-j l = Looked (λ l.j. decide (outgrows l.setup l.i l.j)) l.i l.j
+
+abbrev pub decreases-loop-j : goal.decreases-loop-j
+decreases-loop-j l = l.i - l.j

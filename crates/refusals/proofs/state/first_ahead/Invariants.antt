@@ -1,0 +1,15 @@
+-- `state::first_ahead` meets its contract: it has looked at the numbers below k. The measure is what is left to look at. Assumes nothing.
+use mathlib.Core.Path.{sym, ◌∙◌}
+use Prim.Native.Nat.{◌-◌}
+use native.Mathlib.Omega.{arith}
+use borrow.Author.Rules.{rules}
+use Rattle.theory_tables.specs.Condition.{decide}
+use Rattle.theory_tables.proofs.Firsts.{Looked, look_start, look_on, look_found, look_over}
+use Rattle.refusals.specs.Refusals.{ahead_at}
+use Rattle.refusals.proofs.state.first_ahead.Given as goal
+
+abbrev pub invariant-loop-k : goal.invariant-loop-k
+invariant-loop-k l = Looked (λ l.k. decide (ahead_at l.frames l.progress l.k)) l.tops l.k
+
+abbrev pub decreases-loop-k : goal.decreases-loop-k
+decreases-loop-k l = l.tops - l.k

@@ -1,0 +1,17 @@
+-- `state::first_lost` meets its contract: it has looked at the stages below i. The measure is what is left to look at. Assumes nothing.
+use mathlib.Core.Path.{◌≡◌, sym, ◌∙◌}
+use Prim.Native.Nat.{◌+◌, ◌*◌, ◌-◌}
+use native.Mathlib.Omega.{arith}
+use borrow.Author.Rules.{rules}
+use Rattle.theory_tables.specs.Condition.{decide}
+use Rattle.theory_tables.proofs.Firsts.{Looked, look_start, look_on, look_found, look_over}
+use Rattle.memories.specs.Sizes.{place_positions}
+use Rattle.stage.specs.Setup.{used_of}
+use Rattle.refusals.specs.Refusals.{lost_at}
+use Rattle.refusals.proofs.state.first_lost.Given as goal
+
+abbrev pub invariant-loop-i : goal.invariant-loop-i
+invariant-loop-i l = Looked (λ l.i. decide (lost_at l.setup l.positions l.i)) (used_of l.setup) l.i
+
+abbrev pub decreases-loop-i : goal.decreases-loop-i
+decreases-loop-i l = l.end - l.i
