@@ -11,7 +11,7 @@ use Rattle.refusals.specs.Refusals.{out_of_range}
 use Rattle.refusals.proofs.chain.first_out_of_range.Given as goal
 
 abbrev pub invariant-loop-i : goal.invariant-loop-i
-invariant-loop-i l = Looked (λ l.i. decide (out_of_range l.setup l.i)) (used_of l.setup) l.i
+invariant-loop-i l = Looked (λ i. decide (out_of_range l.setup i)) (used_of l.setup) l.i
 
 abbrev pub decreases-loop-i : goal.decreases-loop-i
 decreases-loop-i l = l.end - l.i

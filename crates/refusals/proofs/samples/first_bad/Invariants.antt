@@ -10,7 +10,7 @@ use Rattle.refusals.specs.Refusals.{bad_sample}
 use Rattle.refusals.proofs.samples.first_bad.Given as goal
 
 abbrev pub invariant-loop-i : goal.invariant-loop-i
-invariant-loop-i l = (l.from ≤ l.i) × Looked (λ l.i. decide (bad_sample l.from l.samples l.i)) (length l.samples) l.i
+invariant-loop-i l = (l.from ≤ l.i) × Looked (λ i. decide (bad_sample l.from l.samples i)) (length l.samples) l.i
 
 abbrev pub decreases-loop-i : goal.decreases-loop-i
 decreases-loop-i l = length l.samples - l.i

@@ -10,6 +10,7 @@ use Rattle.theory_tables.specs.Condition.{decide}
 use Rattle.stage.specs.declared.setup.Setup.{Setup}
 use Rattle.refusals.specs.Shape.{owns, depth_of}
 use Rattle.refusals.proofs.shape.depth.Goals as goal
+use Rattle.refusals.proofs.shape.depth.Goals.{then-is_owner, else-is_owner}
 
 -- one more stage, which owns the one at i or does not
 depth_more : (setup : Setup) (i j : ℕ) {owner : Bool} → owner ≡ decide (owns setup j i) → depth_of setup i (j + 1) ≡ depth_of setup i j + cond owner 1 0
@@ -24,7 +25,7 @@ pub loop-j-preserved : goal.loop-j-preserved
 loop-j-preserved c =
     let a = c.args in
     let more = depth_more a.setup a.i c.loop-j.j c.is_owner.ensures in
-    ⊎_elim
-    (λ w. (omega arith, omega arith, omega (arith, rw w.0.taken at more)))
-    (λ w. (omega arith, omega arith, omega (arith, rw w.0.left at more)))
-    c.if-is_owner.branch
+    elim c.if-is_owner.branch [
+      then-is_owner w ↦ (omega arith, omega arith, omega (arith, rw w.if-is_owner.true at more))
+    | else-is_owner w ↦ (omega arith, omega arith, omega (arith, rw w.if-is_owner.false at more))
+    ]

@@ -10,7 +10,7 @@ use Rattle.refusals.specs.Shape.{faulty}
 use Rattle.refusals.proofs.shape.first_faulty.Given as goal
 
 abbrev pub invariant-loop-i : goal.invariant-loop-i
-invariant-loop-i l = Looked (λ l.i. decide (faulty l.setup l.i)) (used_of l.setup) l.i
+invariant-loop-i l = Looked (λ i. decide (faulty l.setup i)) (used_of l.setup) l.i
 
 abbrev pub decreases-loop-i : goal.decreases-loop-i
 decreases-loop-i l = l.end - l.i

@@ -9,7 +9,7 @@ use Rattle.refusals.specs.Shape.{outgrows}
 use Rattle.refusals.proofs.shape.first_outgrown.Given as goal
 
 abbrev pub invariant-loop-j : goal.invariant-loop-j
-invariant-loop-j l = Looked (λ l.j. decide (outgrows l.setup l.i l.j)) l.i l.j
+invariant-loop-j l = Looked (λ j. decide (outgrows l.setup l.i j)) l.i l.j
 
 abbrev pub decreases-loop-j : goal.decreases-loop-j
 decreases-loop-j l = l.i - l.j

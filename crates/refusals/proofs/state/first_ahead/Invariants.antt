@@ -9,7 +9,7 @@ use Rattle.refusals.specs.Refusals.{ahead_at}
 use Rattle.refusals.proofs.state.first_ahead.Given as goal
 
 abbrev pub invariant-loop-k : goal.invariant-loop-k
-invariant-loop-k l = Looked (λ l.k. decide (ahead_at l.frames l.progress l.k)) l.tops l.k
+invariant-loop-k l = Looked (λ k. decide (ahead_at l.frames l.progress k)) l.tops l.k
 
 abbrev pub decreases-loop-k : goal.decreases-loop-k
 decreases-loop-k l = l.tops - l.k

@@ -11,7 +11,7 @@ use Rattle.refusals.specs.Refusals.{lost_at}
 use Rattle.refusals.proofs.state.first_lost.Given as goal
 
 abbrev pub invariant-loop-i : goal.invariant-loop-i
-invariant-loop-i l = Looked (λ l.i. decide (lost_at l.setup l.positions l.i)) (used_of l.setup) l.i
+invariant-loop-i l = Looked (λ i. decide (lost_at l.setup l.positions i)) (used_of l.setup) l.i
 
 abbrev pub decreases-loop-i : goal.decreases-loop-i
 decreases-loop-i l = l.end - l.i

@@ -1,0 +1,20 @@
+-- `samples::first_bad` meets its contract: below `from` no sample counts as bad, and it has looked at those below i. The measure is what is left to look at. Assumes nothing.
+use mathlib.Core.Path.{ap}
+use mathlib.Core.Bool.{not}
+use Prim.Native.Nat.{◌-◌, ◌≤◌}
+use native.Mathlib.Omega.{arith}
+use lib.ListN.{length}
+use borrow.Author.Rules.{rules}
+use borrow.Author.Tests.{le-leb, lt-leb}
+use Rattle.theory_tables.specs.Condition.{decide}
+use Rattle.theory_tables.proofs.Firsts.{Looked, look_on, look_found, look_over}
+use Rattle.refusals.specs.Refusals.{bad_sample}
+use Rattle.refusals.proofs.samples.first_bad.Goals as goal
+
+pub returns-then-not-is_finite_f32 : goal.returns-then-not-is_finite_f32
+returns-then-not-is_finite_f32 c =
+    let at = c.loop-i in
+    look_found at.invariant.1 (omega arith) (rw (le-leb _ at.i at.invariant.0, ← c.is_finite_f32.ensures) (ap not c.if-not-is_finite_f32.true))
+
+pub returns : goal.returns
+returns c = look_over c.loop-i.invariant.1 (omega arith)
