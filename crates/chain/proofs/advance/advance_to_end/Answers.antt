@@ -1,0 +1,16 @@
+-- A top stage is run on as many more frames as the block has for it: at each turn it is what is left of the order. Assumes nothing.
+use mathlib.Core.Path.{◌≡◌, refl}
+use Prim.Native.Nat.{◌-◌}
+use native.Mathlib.Omega.{arith}
+use lib.ListN.{length, get_or, replicate}
+use borrow.Author.Rules.{rules}
+use Rattle.top_stages.proofs.TopStages.{tops_few}
+use Rattle.chain.specs.Chain.{frames_of, state}
+use Rattle.chain.proofs.Turns.{Pending, pending_first, pending_ready, pending_may, end_turn, end_moved, end_next, end_last}
+use Rattle.chain.proofs.advance.advance_to_end.Goals as goal
+
+pub loop-progress-smaller : goal.loop-progress-smaller
+loop-progress-smaller c = omega (arith, end_moved _ c.loop-progress-test.true c.loop-progress.invariant.0 c.advance.ensures, c.loop-progress-test.true)
+
+pub loop-progress-preserved : goal.loop-progress-preserved
+loop-progress-preserved c = (end_next _ c.loop-progress-test.true c.loop-progress.invariant.0 c.advance.ensures, search rules, search rules, search rules)
