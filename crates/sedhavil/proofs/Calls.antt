@@ -41,10 +41,6 @@ module _ {fault r : Reply} (e : r ≡ fault) {A : Type 0} (x y : A) where
   pub taken : r.number ≡ 0 → read fault x y ≡ x
   taken h = rw (eq-eqb fault.number 0 (rw e at h))
 
--- the fault is the answer, and everything is as it was
-pub refused_both : {fault r : Reply} → r ≡ fault → {A : Type 0} (a : Reply) (x y : A) → (r.number ≡ 0 → ⊥) → (r ≡ read fault a fault) × (y ≡ read fault x y)
-refused_both {fault} e a x y h = (e ∙ sym (refused e a fault h), sym (refused e x y h))
-
 -- ---- a call on a block that can be read: its memories and progress were gathered from what was lent, and what it left of them was handed back there
 module _ (words : List ℕ) (xs st : List Float) (p : List ℕ) (f : List Float) (g : List ℕ) where
   abbrev lent : State Float Held
