@@ -131,8 +131,7 @@ fn hand_back(
 
 // Runs top stages in the given order, each entry on that stage's next frame. The order need not finish
 // the block.
-#[unsafe(no_mangle)]
-pub extern "C" fn sedhavil_run(
+pub fn sedhavil_run(
     rate: u32,
     stages: &[u64],
     samples: &mut [f32],
@@ -162,8 +161,7 @@ pub extern "C" fn sedhavil_run(
 }
 
 // Runs every stage to the last frame, from wherever the block stands.
-#[unsafe(no_mangle)]
-pub extern "C" fn sedhavil_render(
+pub fn sedhavil_render(
     rate: u32,
     stages: &[u64],
     samples: &mut [f32],
@@ -192,8 +190,7 @@ pub extern "C" fn sedhavil_render(
 
 // A fresh start: clears the floats of the store that the stages need, and all memories. Where one of
 // refusals 1 to 5 applies it clears the memories alone, and where the call cannot be read nothing.
-#[unsafe(no_mangle)]
-pub extern "C" fn sedhavil_start(
+pub fn sedhavil_start(
     rate: u32,
     stages: &[u64],
     positions: &mut [usize],
@@ -216,8 +213,7 @@ pub extern "C" fn sedhavil_start(
 
 // How many floats the store needs. Refused are words that cannot be read, and what a start refuses with
 // a store of that many floats: rates, stages, shapes and settings.
-#[unsafe(no_mangle)]
-pub extern "C" fn sedhavil_floats_needed(rate: u32, stages: &[u64]) -> Room
+pub fn sedhavil_floats_needed(rate: u32, stages: &[u64]) -> Room
     ensures { result ≡ needed_room rate stages.now }
 {
     let fault = fault_of(stages, ALL_POSITIONS, ALL_FLOATS, PLACES);
@@ -231,8 +227,7 @@ pub extern "C" fn sedhavil_floats_needed(rate: u32, stages: &[u64]) -> Room
 
 // The version of the layout of a stage's words and of memories. A host that was made for another version
 // would send what this library does not know, or reads as something else.
-#[unsafe(no_mangle)]
-pub extern "C" fn sedhavil_layout_version() -> u32
+pub fn sedhavil_layout_version() -> u32
     ensures { result ≡ layout_version }
 {
     stage_words::layout_version()

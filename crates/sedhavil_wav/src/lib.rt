@@ -35,8 +35,7 @@ fn header_out(given: Header) -> WavHeader
 
 // Reads the header in the first 44 bytes, for a program that takes rates up to `highest`. Of the refusals
 // that apply it gives the first in the order 25, 21, 22, 23, 24.
-#[unsafe(no_mangle)]
-pub extern "C" fn sedhavil_wav_header(bytes: &[u8], highest: u32) -> WavHeader
+pub fn sedhavil_wav_header(bytes: &[u8], highest: u32) -> WavHeader
     ensures { result ≡ header_out (header_of bytes.now highest) }
 {
     header_out(wav_header::read(bytes, highest))
@@ -44,8 +43,7 @@ pub extern "C" fn sedhavil_wav_header(bytes: &[u8], highest: u32) -> WavHeader
 
 // Turns bytes into samples, as many whole frames as both slices have room for, and returns how many
 // frames that is. Samples past them stay as they were.
-#[unsafe(no_mangle)]
-pub extern "C" fn sedhavil_wav_frames_in(bytes: &[u8], samples: &mut [f32]) -> usize
+pub fn sedhavil_wav_frames_in(bytes: &[u8], samples: &mut [f32]) -> usize
     ensures { (result ≡ whole_frames bytes.now samples.old) × (samples.new ≡ samples_in bytes.now samples.old) }
 {
     wav_samples::frames::frames_in(bytes, samples)
@@ -53,8 +51,7 @@ pub extern "C" fn sedhavil_wav_frames_in(bytes: &[u8], samples: &mut [f32]) -> u
 
 // Turns samples into bytes, as many whole frames as both slices have room for, and returns how many
 // frames that is. Bytes past them stay as they were.
-#[unsafe(no_mangle)]
-pub extern "C" fn sedhavil_wav_frames_out(samples: &[f32], bytes: &mut [u8]) -> usize
+pub fn sedhavil_wav_frames_out(samples: &[f32], bytes: &mut [u8]) -> usize
     ensures { (result ≡ whole_frames bytes.old samples.now) × (bytes.new ≡ bytes_out samples.now bytes.old) }
 {
     wav_samples::frames::frames_out(samples, bytes)
