@@ -2,7 +2,7 @@
 use Prim.Native.Nat.{ℕ}
 use mathlib.Core.Bool.{Bool}
 use lib.IntN.{ℤ, pos, negsuc}
-use lib.Signed.{_≤ℤ_}
+use lib.Signed.{◌≤ℤ◌}
 use lib.Ieee.{Float, Format, binary32, binary64}
 use Rattle.theory_nearest.specs.Nearest.{Nearest, TheNearest}
 use Rattle.theory_nearest.specs.Ieee754.{SquareRoot, Narrowing}
