@@ -1,7 +1,7 @@
 /* Sedhavil for C, on x86-64 Linux: the audio effects of the Rust library kira, every bit of output proved.
  *
- *     rt staticlib sedhavil          writes target/staticlib/libsedhavil.a, for chains
- *     rt staticlib sedhavil_wav      writes target/staticlib/libsedhavil_wav.a, for WAV files
+ *     bindings/library               writes target/staticlib/libsedhavil.a, for chains, and libsedhavil_wav.a, for
+ *                                    WAV files
  *     cc -Ibindings/c host.c target/staticlib/libsedhavil.a -o host      and libsedhavil_wav.a for WAV files
  *
  * A chain of at most 16 stages works on blocks of at most 4,096 stereo frames. The ordinary way, which

@@ -1,4 +1,4 @@
-// Links libsedhavil.a and libsedhavil_wav.a, which `rt staticlib` writes: from SEDHAVIL_LIBRARY, or from this
+// Links libsedhavil.a and libsedhavil_wav.a, which `bindings/library` writes: from SEDHAVIL_LIBRARY, or from this
 // repository.
 use std::path::PathBuf;
 
@@ -11,7 +11,7 @@ fn main() {
     println!("cargo:rustc-link-search=native={}", folder.display());
     for name in ["sedhavil", "sedhavil_wav"] {
         let library = folder.join(format!("lib{name}.a"));
-        assert!(library.exists(), "{} is not there: run `rt staticlib {name}` first", library.display());
+        assert!(library.exists(), "{} is not there: run `bindings/library` first", library.display());
         println!("cargo:rerun-if-changed={}", library.display());
         println!("cargo:rustc-link-lib=static={name}");
     }
