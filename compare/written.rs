@@ -13,6 +13,10 @@ pub fn print_array(what: &str, name: &str, width: u32, numbers: &[u64]) {
     print_listed(what, name, &format!("u{width}"), numbers);
 }
 
+// The most characters of a line, and of a number of which several stand in one.
+const LINE: usize = 100;
+const SHORT: usize = 10;
+
 // Numbers that are written out, of a type that is named.
 pub fn print_listed(
     what: &str,
@@ -22,8 +26,24 @@ pub fn print_listed(
 ) {
     println!("\n// {what}");
     println!("pub const {name}: [{of}; {}] = [", numbers.len());
+    let numbers: Vec<String> = numbers.collect();
+    let are_short = numbers.iter().all(|number| number.len() <= SHORT);
+    let mut line = String::new();
     for number in numbers {
-        println!("    {number},");
+        let has_room = are_short && line.len() + number.len() + 2 <= LINE;
+        if has_room && !line.is_empty() {
+            line = format!("{line} {number},");
+        } else {
+            print_line(&line);
+            line = format!("    {number},");
+        }
     }
+    print_line(&line);
     println!("];");
+}
+
+fn print_line(line: &str) {
+    if !line.is_empty() {
+        println!("{line}");
+    }
 }
