@@ -1,11 +1,9 @@
 use mathlib.Core.Path.{sym, ◌∙◌}
-use lib.Dec.{lit≤}
 use lib.Ieee.{binary32, of_bits, round}
-use borrow.Author.Rules.{rules}
 use Rattle.float.specs.Literal.{literal}
 use Rattle.float.proofs.Nan.{nan_is}
 use Rattle.decibels.specs.Amplitude.{amplitudes}
-use Rattle.decibels.proofs.Places.{Inside, amplitude_entry, too_low, too_high, sum_fits, cast_fits, bytes_fit, place_small, place_entry}
+use Rattle.decibels.proofs.Places.{Inside, amplitude_entry, too_low, too_high, place_entry}
 use Rattle.decibels.proofs.amplitude.Goals as goal
 use Rattle.decibels.proofs.amplitude.Goals.{Else-db-gt24}
 

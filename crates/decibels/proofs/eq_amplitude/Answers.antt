@@ -1,10 +1,8 @@
 use mathlib.Core.Path.{sym, ◌∙◌}
-use lib.Dec.{lit≤}
 use lib.Ieee.{nan, binary64}
-use borrow.Author.Rules.{rules}
 use Rattle.float.proofs.Nan.{nan_is}
 use Rattle.decibels.specs.Amplitude.{eq_amplitudes}
-use Rattle.decibels.proofs.Places.{Inside, eq_amplitude_entry, too_low, too_high, sum_fits, cast_fits, bytes_fit, place_small, place_entry}
+use Rattle.decibels.proofs.Places.{Inside, eq_amplitude_entry, too_low, too_high, place_entry}
 use Rattle.decibels.proofs.eq_amplitude.Goals as goal
 use Rattle.decibels.proofs.eq_amplitude.Goals.{Else-gain-gt24}
 

@@ -1,5 +1,4 @@
 -- `step` gives what `stepped_of` says: each call's promise is put in, the last call first, and the literal 2.0 is read by computation.
-use borrow.Author.Rules.{rules}
 use lib.Ieee.{of_bits, round}
 use Rattle.float.specs.Literal.{literal}
 use Rattle.integrators.specs.Integrators.{stepped_of}

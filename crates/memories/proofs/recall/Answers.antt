@@ -1,5 +1,4 @@
 -- `recall` meets its contract: the two frames are the record. Assumes nothing.
-use borrow.Author.Rules.{rules}
 use Rattle.memories.specs.Kinds.{remembered}
 use Rattle.memories.proofs.recall.Goals as goal
 

@@ -1,5 +1,5 @@
 -- `may_run` meets its contract: it tests the rules row by row, and at each return those before it are past. Assumes nothing.
-use Rattle.std.proofs.Common.{◌≡◌, ℕ, ◌<◌, List, refl, arith, get_or}
+use Rattle.std.proofs.Common.{ℕ, ◌<◌, List, refl, arith, get_or}
 use lib.ListN.{drop}
 use borrow.Author.Tests.{le-leb, lt-leb}
 use Rattle.theory_tables.proofs.Decided.{is, is_not}

@@ -1,5 +1,4 @@
 use mathlib.Core.Path.{sym, ◌∙◌}
-use borrow.Author.Rules.{rules}
 use Rattle.reverb_tuning.proofs.Tunings.{floats_are}
 use Rattle.reverb_tuning.proofs.reverb_floats.Goals as goal
 

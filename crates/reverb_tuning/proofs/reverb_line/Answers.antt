@@ -1,10 +1,9 @@
 use mathlib.Core.Path.{◌≡◌, sym, ap, ◌∙◌}
 use Prim.Native.Nat.{ℕ, ◌+◌, ◌-◌}
 use native.Mathlib.Omega.{arith}
-use borrow.Author.Rules.{rules}
 use lib.ListN.{get_or, get_or-eq_default}
-use Rattle.reverb_tuning.specs.Tuning.{tunings, reverb_lines}
-use Rattle.reverb_tuning.proofs.Tunings.{at_most_total, lines_length, left_line, right_line}
+use Rattle.reverb_tuning.specs.Tuning.{reverb_lines}
+use Rattle.reverb_tuning.proofs.Tunings.{lines_length, left_line, right_line}
 use Rattle.reverb_tuning.proofs.reverb_line.Goals as goal
 
 pub returns-then-k-lt-SIDE_LINES : goal.returns-then-k-lt-SIDE_LINES

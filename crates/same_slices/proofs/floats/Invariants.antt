@@ -1,11 +1,8 @@
 -- The loop's invariant: both are of one length, and the places passed are the same. The measure is what is left of them. Assumes nothing.
-use mathlib.Core.Path.{sym, ◌∙◌}
 use Prim.Native.Nat.{◌-◌}
-use native.Mathlib.Omega.{arith}
-use borrow.Author.Count.{below_more}
 use lib.Ieee.{binary32, nan, to_bits}
 use lib.ListN.{length}
-use Rattle.same_slices.proofs.Sames.{Passed, other_length, differs, agrees}
+use Rattle.same_slices.proofs.Sames.{Passed}
 use Rattle.same_slices.proofs.floats.Given as goal
 
 abbrev pub invariant-loop-i : goal.invariant-loop-i

@@ -1,9 +1,7 @@
 -- The loop's invariant: both are of one length, and the places passed are the same. The measure is what is left of them. Assumes nothing.
 use Prim.Native.Nat.{ℕ, ◌-◌}
-use native.Mathlib.Omega.{arith}
-use borrow.Author.Count.{below_more}
 use lib.ListN.{length}
-use Rattle.same_slices.proofs.Sames.{Passed, other_length, differs, agrees}
+use Rattle.same_slices.proofs.Sames.{Passed}
 use Rattle.same_slices.proofs.numbers.Given as goal
 
 abbrev pub invariant-loop-i : goal.invariant-loop-i

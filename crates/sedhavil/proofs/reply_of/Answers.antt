@@ -1,6 +1,5 @@
 -- What `number` and `place` promise. Assumes nothing.
 use Rattle.sedhavil.specs.Call.{reply_of}
-use borrow.Author.Rules.{rules}
 use Rattle.sedhavil.proofs.reply_of.Goals as goal
 
 pub returns : goal.returns

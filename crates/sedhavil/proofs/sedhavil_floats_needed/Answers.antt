@@ -1,6 +1,5 @@
 -- A call that cannot be read is refused; any other gets what `check_chain` promises of a store of the needed floats. Assumes nothing.
 use mathlib.Core.Path.{sym, ap, ◌∙◌}
-use borrow.Author.Rules.{rules}
 use Rattle.sedhavil.specs.Call.{room_of}
 use Rattle.sedhavil.specs.Face.{needed_room}
 use Rattle.sedhavil.proofs.Calls.{refused, taken}

@@ -1,7 +1,6 @@
 -- A call that cannot be read is refused; of any other, what `render` promises, of the chain that the words are and of the arrays that hold what was lent. Assumes nothing.
 use mathlib.Core.Path.{sym, ◌∙◌}
 use mathlib.Core.List.{[]}
-use borrow.Author.Rules.{rules}
 use Rattle.chain.specs.Run.{answer_on, rendered_of}
 use Rattle.sedhavil.specs.Face.{render_reply, render_leaves}
 use Rattle.sedhavil.proofs.Calls.{refused, block_taken}

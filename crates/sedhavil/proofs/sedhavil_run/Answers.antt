@@ -1,6 +1,5 @@
 -- A call that cannot be read is refused; of any other, what `run` promises, of the chain that the words are and of the arrays that hold what was lent. Assumes nothing.
 use mathlib.Core.Path.{sym, ◌∙◌}
-use borrow.Author.Rules.{rules}
 use Rattle.chain.specs.Run.{answer_on, leaves_of}
 use Rattle.sedhavil.specs.Face.{run_reply, run_leaves}
 use Rattle.sedhavil.proofs.Calls.{refused, block_taken}

@@ -1,6 +1,5 @@
 -- A call that cannot be read is refused; of any other, what `start` promises, of the chain that the words are. Assumes nothing.
 use mathlib.Core.Path.{sym, ◌∙◌}
-use borrow.Author.Rules.{rules}
 use Rattle.sedhavil.specs.Face.{start_reply, start_leaves}
 use Rattle.sedhavil.proofs.Calls.{sized, refused, taken}
 use Rattle.sedhavil.proofs.sedhavil_start.Goals as goal

@@ -5,7 +5,6 @@ use Rattle.wav_header.specs.declared.Header.TheVariants.{Read, Names, Format, Ra
 use Rattle.wav_header.specs.Header.{header_number}
 use Rattle.sedhavil_wav.specs.declared.WavHeader.{WavHeader}
 use Rattle.sedhavil_wav.specs.Header.{rate_of, data_size_of, header_out}
-use borrow.Author.Rules.{rules}
 use Rattle.sedhavil_wav.proofs.header_out.Goals as goal
 
 -- the answer for C

@@ -1,7 +1,6 @@
 -- The tests on the kind pick the case as the definition does, and each word's test is the definition's. Assumes nothing.
 use borrow.Author.Tests.{ne_eqb}
 use Rattle.stage_words.specs.Words.{is_stage}
-use borrow.Author.Rules.{rules}
 use Rattle.stage_words.proofs.is_stage.Goals as goal
 
 pub returns-then-w-eq0 : goal.returns-then-w-eq0

@@ -3,9 +3,8 @@ use mathlib.Core.Path.{◌∙◌}
 use Prim.Native.Nat.{◌-◌, ◌^◌}
 use native.Mathlib.Omega.{arith}
 use mir.Syntax.{w32}
-use Rattle.float.proofs.Complement.{complement_fits, complement_is}
+use Rattle.float.proofs.Complement.{complement_is}
 use Rattle.stage_words.proofs.Levels.{level_pos, level_neg, level_none}
-use borrow.Author.Rules.{rules}
 use Rattle.stage_words.proofs.level.Goals as goal
 
 pub returns-then-word-lt2147483648 : goal.returns-then-word-lt2147483648

@@ -1,5 +1,4 @@
 -- The test on the kind picks the case as the definition does, and each number is read as the definition reads it. Assumes nothing.
-use borrow.Author.Rules.{rules}
 use borrow.Author.Tests.{ne_eqb}
 use Rattle.stage.specs.declared.kind.Stage.TheVariants.{Reverb, Delay}
 use Rattle.stage_words.specs.Words.{line_stage_of}

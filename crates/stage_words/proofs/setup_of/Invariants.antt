@@ -1,15 +1,12 @@
 -- The loop's invariant: the places passed hold the stages of their words. The measure is the places left. Assumes nothing.
-use mathlib.Core.Path.{◌≡◌, refl, ap, ◌∙◌}
+use mathlib.Core.Path.{◌≡◌}
 use mathlib.Core.List.{List}
 use Prim.Native.Nat.{ℕ, ◌-◌, ◌≤◌, ◌<◌}
-use native.Mathlib.Omega.{arith}
-use lib.ListN.{length, get_or, length-set}
+use lib.ListN.{length, get_or}
 use Rattle.memories.specs.Sizes.{places}
 use Rattle.stage.specs.Setup.{unused}
 use Rattle.stage.specs.declared.setup.Slot.{Slot}
-use Rattle.stage.proofs.Listed.{listed_all, listed_more}
-use Rattle.stage_words.specs.Words.{count_of, stage_words, stage_of, setup_of}
-use borrow.Author.Rules.{rules}
+use Rattle.stage_words.specs.Words.{stage_words, stage_of, setup_of}
 use Rattle.stage_words.proofs.setup_of.Given as goal
 
 -- The loop's invariant: the places passed hold the stages of their words. The measure is the places left. Assumes nothing.

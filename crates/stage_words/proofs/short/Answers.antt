@@ -1,7 +1,6 @@
 -- The test picks the case as the definition does. Assumes nothing.
 use borrow.Author.Tests.{lt-ltb, le-ltb}
 use Rattle.stage_words.specs.Words.{short_of}
-use borrow.Author.Rules.{rules}
 use Rattle.stage_words.proofs.short.Goals as goal
 
 pub returns-then-word-lt4294967296 : goal.returns-then-word-lt4294967296

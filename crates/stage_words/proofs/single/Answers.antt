@@ -1,6 +1,5 @@
 -- What `from_bits_f32` promises of the word's low half. Assumes nothing.
 use Rattle.stage_words.specs.Words.{single_of}
-use borrow.Author.Rules.{rules}
 use Rattle.stage_words.proofs.single.Goals as goal
 
 pub returns : goal.returns

@@ -4,7 +4,6 @@ use borrow.Author.Tests.{ne_eqb}
 use Rattle.stage.specs.declared.kind.Stage.TheVariants.{VolumeControl, PanningControl, Distortion, Filter, EqFilter}
 use Rattle.stage_words.specs.Words.{stage_of}
 use Rattle.stage_words.proofs.Levels.{level_kept}
-use borrow.Author.Rules.{rules}
 use Rattle.stage_words.proofs.stage_of.Goals as goal
 
 pub returns-then-w-eq0 : goal.returns-then-w-eq0

@@ -1,13 +1,12 @@
 -- `tops_of` meets its contract. The loop's invariant: `i` is the place of top stage n, of which there are at least n, and the entries up to n are written. The measure is what is left of the places. Assumes nothing.
 use mathlib.Core.Path.{◌≡◌, refl, ap, sym, ◌∙◌}
-use Prim.Native.Nat.{◌+◌, ◌-◌, ◌≤◌, ◌<◌}
+use Prim.Native.Nat.{◌+◌, ◌<◌}
 use native.Mathlib.Omega.{arith}
 use lib.ListN.{get_or-replicate}
-use borrow.Author.Rules.{rules}
 use Rattle.memories.specs.Sizes.{places}
-use Rattle.stage.specs.Setup.{used_of, next_place}
-use Rattle.top_stages.specs.Tops.{top_at, tops_of}
-use Rattle.top_stages.proofs.TopStages.{top_zero, top_more, tops_more, tops_are, Written, written_more, written_all}
+use Rattle.stage.specs.Setup.{next_place}
+use Rattle.top_stages.specs.Tops.{tops_of}
+use Rattle.top_stages.proofs.TopStages.{top_zero, top_more, tops_more, tops_are, written_more, written_all}
 use Rattle.top_stages.proofs.tops_of.Goals as goal
 
 pub loop-i-init : goal.loop-i-init

@@ -1,6 +1,5 @@
 -- `four_at` meets its contract. Assumes nothing.
 use mathlib.Core.Path.{sym}
-use borrow.Author.Rules.{rules}
 use Rattle.wav_bytes.specs.Bytes.{four_at}
 use Rattle.wav_bytes.proofs.Past.{four_past}
 use Rattle.wav_bytes.proofs.four_at.Goals as goal

@@ -2,7 +2,6 @@
 use mathlib.Core.Path.{sym}
 use native.Mathlib.Omega.{arith}
 use lib.Dec.{lit<}
-use borrow.Author.Rules.{rules}
 use Rattle.wav_bytes.specs.Bytes.{two_at}
 use Rattle.wav_bytes.proofs.Past.{two_past}
 use Rattle.wav_bytes.proofs.two_at.Goals as goal

@@ -1,5 +1,5 @@
 -- `read` meets its contract: it tests the table row by row, and at each return the rows before it are past. Assumes nothing.
-use Rattle.std.proofs.Common.{◌≡◌, ℕ, ◌≤◌, List, Bool, false, refl, ap, sym, ◌∙◌, length}
+use Rattle.std.proofs.Common.{◌≡◌, ℕ, ◌≤◌, List, false, refl, ap, sym, ◌∙◌, length}
 use mathlib.Core.Bool.{not}
 use borrow.Author.Tests.{lt-ltb, le-ltb, eq-eqb, ne_eqb}
 use lib.ListN.{drop}
@@ -28,11 +28,11 @@ module _ (bytes : List ℕ) (highest : ℕ) where
   past_format long names format = row_pass (past_names long names) format
 
   past_rate :
-    44 ≤ length bytes
-    → decide (names_wrong bytes) ≡ false
-    → decide (format_wrong bytes) ≡ false
-    → decide (rate_wrong (four_at bytes plain.rate) highest) ≡ false
-    → Past 4
+      44 ≤ length bytes
+      → decide (names_wrong bytes) ≡ false
+      → decide (format_wrong bytes) ≡ false
+      → decide (rate_wrong (four_at bytes plain.rate) highest) ≡ false
+      → Past 4
   past_rate long names format rate = row_pass (past_format long names format) rate
 
 pub returns-then-bytes-lt44 : goal.returns-then-bytes-lt44

@@ -3,9 +3,8 @@ use mathlib.Core.Path.{◌≡◌, ◌∙◌}
 use native.Mathlib.Omega.{arith}
 use mathlib.Core.List.{List}
 use Prim.Native.Nat.{ℕ, ◌-◌, ◌≤◌}
-use lib.ListN.{length, take, drop, length-drop, length-set}
+use lib.ListN.{length, take, drop, length-drop}
 use lib.Seq.{length-take-le}
-use borrow.Author.Rules.{rules}
 use Rattle.chain.specs.Chain.{state}
 use Rattle.chain.proofs.OneStep.{Located, located, advance_is}
 use Rattle.chain.proofs.advance.advance.Goals as goal

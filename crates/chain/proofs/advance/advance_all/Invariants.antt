@@ -1,11 +1,9 @@
 -- An order is run entry by entry: at each turn the rest of it is left. Assumes nothing.
-use mathlib.Core.Path.{◌≡◌, refl}
+use mathlib.Core.Path.{◌≡◌}
 use Prim.Native.Nat.{◌-◌, ◌≤◌}
-use native.Mathlib.Omega.{arith}
 use lib.ListN.{length, drop}
-use borrow.Author.Rules.{rules}
 use Rattle.chain.specs.Chain.{state}
-use Rattle.chain.proofs.Turns.{Pending, pending_first, pending_ready, pending_may, pending_next, all_turn, all_last}
+use Rattle.chain.proofs.Turns.{Pending}
 use Rattle.chain.proofs.advance.advance_all.Given as goal
 
 abbrev pub invariant-loop-at : goal.invariant-loop-at

@@ -1,12 +1,7 @@
 -- A top stage is run on as many more frames as the block has for it: at each turn it is what is left of the order. Assumes nothing.
-use mathlib.Core.Path.{◌≡◌, refl}
-use Prim.Native.Nat.{◌-◌}
 use native.Mathlib.Omega.{arith}
-use lib.ListN.{length, get_or, replicate}
 use borrow.Author.Rules.{rules}
-use Rattle.top_stages.proofs.TopStages.{tops_few}
-use Rattle.chain.specs.Chain.{frames_of, state}
-use Rattle.chain.proofs.Turns.{Pending, pending_first, pending_ready, pending_may, end_turn, end_moved, end_next, end_last}
+use Rattle.chain.proofs.Turns.{end_moved, end_next}
 use Rattle.chain.proofs.advance.advance_to_end.Goals as goal
 
 pub loop-progress-smaller : goal.loop-progress-smaller

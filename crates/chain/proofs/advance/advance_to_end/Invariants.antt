@@ -1,12 +1,9 @@
 -- A top stage is run on as many more frames as the block has for it: at each turn it is what is left of the order. Assumes nothing.
-use mathlib.Core.Path.{◌≡◌, refl}
+use mathlib.Core.Path.{◌≡◌}
 use Prim.Native.Nat.{◌-◌}
-use native.Mathlib.Omega.{arith}
 use lib.ListN.{length, get_or, replicate}
-use borrow.Author.Rules.{rules}
-use Rattle.top_stages.proofs.TopStages.{tops_few}
 use Rattle.chain.specs.Chain.{frames_of, state}
-use Rattle.chain.proofs.Turns.{Pending, pending_first, pending_ready, pending_may, end_turn, end_moved, end_next, end_last}
+use Rattle.chain.proofs.Turns.{Pending}
 use Rattle.chain.proofs.advance.advance_to_end.Given as goal
 
 abbrev pub invariant-loop-progress : goal.invariant-loop-progress

@@ -1,11 +1,9 @@
 -- Stage after stage is run to the last frame: at each turn the stages from k on are what is left of the order. Assumes nothing.
-use mathlib.Core.Path.{◌≡◌, refl}
+use mathlib.Core.Path.{◌≡◌}
 use Prim.Native.Nat.{◌-◌}
-use native.Mathlib.Omega.{arith}
 use lib.ListN.{length}
-use borrow.Author.Rules.{rules}
 use Rattle.chain.specs.Chain.{state}
-use Rattle.chain.proofs.Turns.{Finished, pending_ready, finish_first, finish_orderly, finish_next, finish_last}
+use Rattle.chain.proofs.Turns.{Finished}
 use Rattle.chain.proofs.advance.finish.Given as goal
 
 abbrev pub invariant-loop-k : goal.invariant-loop-k

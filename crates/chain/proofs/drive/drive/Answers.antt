@@ -1,18 +1,14 @@
 -- `drive::drive` meets its contract: an accepted call can be run, and its entries are; otherwise all is as it was. Assumes nothing.
 use mathlib.Core.Path.{sym, ap, ◌∙◌}
-use mathlib.Core.Bool.{cond}
-use mathlib.Core.List.{List}
-use Prim.Native.Nat.{ℕ}
 use borrow.Author.Rules.{rules}
 use lib.Ieee.{Float}
 use Rattle.line.specs.Held.{Held}
 use Rattle.theory_order.specs.Chain.{State}
 use Rattle.answer.specs.Answer.{accepted_of}
-use Rattle.top_stages.proofs.TopStages.{tops_found, places_found}
+use Rattle.top_stages.proofs.TopStages.{tops_found}
 use Rattle.chain.specs.Chain.{state}
-use Rattle.chain.specs.Run.{order_to_end}
 use Rattle.chain.specs.Demands.{Arrays, Taken}
-use Rattle.chain.proofs.Running.{can_run, leaves_by_lem, leaves_by_not}
+use Rattle.chain.proofs.Running.{can_run}
 use Rattle.chain.proofs.drive.drive.Goals as goal
 use Rattle.chain.proofs.drive.drive.Goals.{Start, Then-is_accepted}
 

@@ -1,4 +1,3 @@
-use borrow.Author.Rules.{rules}
 use lib.Ieee.{of_bits, round}
 use Rattle.float.specs.Literal.{literal}
 use Rattle.filters.specs.EqFilter.{bell_of}

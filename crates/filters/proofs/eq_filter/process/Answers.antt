@@ -1,7 +1,6 @@
 -- The promises of the calls, the last first, turn the result into the definition; the gain is an i32 on its way to `calculate`. Assumes nothing.
 use mir.Syntax.{w32}
 use mir.ValLaws.{to_z-of_z}
-use borrow.Author.Rules.{rules}
 use Rattle.filters.specs.EqFilter.{eq_of}
 use Rattle.filters.proofs.eq_filter.process.Goals as goal
 

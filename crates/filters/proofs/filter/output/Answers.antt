@@ -1,4 +1,3 @@
-use borrow.Author.Rules.{rules}
 use Rattle.filters.specs.Filter.{output_of}
 use Rattle.filters.proofs.filter.output.Goals as goal
 

@@ -1,5 +1,4 @@
 -- The promises of the calls, the last first, turn the result into the definition. Assumes nothing.
-use borrow.Author.Rules.{rules}
 use lib.Ieee.{of_bits, round}
 use Rattle.float.specs.Literal.{literal}
 use Rattle.filters.specs.Filter.{filter_of}

@@ -1,4 +1,3 @@
-use borrow.Author.Rules.{rules}
 use Rattle.filters.specs.Narrowed.{narrowed_of}
 use Rattle.filters.proofs.narrowed.run_narrowed.Goals as goal
 

@@ -1,6 +1,5 @@
 use mathlib.Core.Path.{sym, ◌∙◌}
 use lib.Ieee.{binary32}
-use borrow.Author.Rules.{rules}
 use Rattle.float.proofs.Nan.{nan_is}
 use Rattle.float.proofs.Patterns.{nan_pattern, no_nan_pattern}
 use Rattle.float.proofs.bits.from_bits_f32.Goals as goal

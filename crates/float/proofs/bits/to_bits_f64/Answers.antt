@@ -1,6 +1,5 @@
 use mathlib.Core.Path.{sym, ap}
 use lib.Ieee.{binary64, to_bits}
-use borrow.Author.Rules.{rules}
 use Rattle.float.proofs.Nan.{is_nan_lem, not_nan}
 use Rattle.float.proofs.bits.to_bits_f64.Goals as goal
 

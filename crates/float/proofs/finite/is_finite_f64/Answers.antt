@@ -1,4 +1,3 @@
-use borrow.Author.Rules.{rules}
 use lib.Ieee.{binary64}
 use Rattle.float.proofs.Finites.{finite_test}
 use Rattle.float.proofs.finite.is_finite_f64.Goals as goal

@@ -1,11 +1,10 @@
 -- `start::clear` meets its contract: the first i floats are cleared. The measure is n - i. Assumes nothing.
-use mathlib.Core.Path.{◌≡◌, refl, ap, ◌∙◌}
-use Prim.Native.Nat.{◌≤◌, ◌-◌}
+use mathlib.Core.Path.{refl, ap, ◌∙◌}
 use native.Mathlib.Omega.{arith}
 use lib.Ieee.{of_bits, round}
-use lib.ListN.{length, set, length-set}
+use lib.ListN.{set, length-set}
 use Rattle.float.specs.Literal.{literal}
-use Rattle.fresh_start.specs.Start.{clear_float, cleared_to}
+use Rattle.fresh_start.specs.Start.{clear_float}
 use Rattle.fresh_start.proofs.Cleared.{cleared_none, cleared_more}
 use Rattle.fresh_start.proofs.start.clear.Goals as goal
 

@@ -1,5 +1,4 @@
 use native.Mathlib.Omega.{arith}
-use borrow.Author.Rules.{rules}
 use lib.Ieee.{nan, div, of_bits}
 use lib.ListN.{get_or-eq_default}
 use Rattle.line.proofs.floats.float_at.Goals as goal

@@ -1,6 +1,5 @@
 use Prim.Native.Nat.{◌+◌, ◌*◌}
 use native.Mathlib.Omega.{arith}
-use borrow.Author.Rules.{rules}
 use lib.Seq.{set_out}
 use Rattle.line.specs.Frames.{frame_in}
 use Rattle.line.proofs.frames.put_frame.Goals as goal

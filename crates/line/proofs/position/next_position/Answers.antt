@@ -1,6 +1,5 @@
 use Prim.Native.Nat.{◌+◌}
 use native.Mathlib.Omega.{arith}
-use borrow.Author.Rules.{rules}
 use borrow.Author.Tests.{lt-ltb, le-ltb}
 use Rattle.line.specs.Position.{next_position}
 use Rattle.line.proofs.position.next_position.Goals as goal

@@ -1,7 +1,6 @@
 -- `lines::floats_of` meets its contract: a law of proofs/LinesHeld.antt for each kind of lines. A u32 rate keeps a reverb's lines below the bound. Assumes nothing.
 use mathlib.Core.Path.{◌∙◌}
 use native.Mathlib.Omega.{arith}
-use borrow.Author.Rules.{rules}
 use Rattle.reverb_tuning.proofs.Tunings.{reverb_within}
 use Rattle.line_layout.proofs.LinesHeld as held
 use Rattle.line_layout.proofs.lines.floats_of.Goals as goal

@@ -1,7 +1,6 @@
 -- `lines::is_lost` meets its contract: a law of proofs/LinesHeld.antt for each kind of lines. Assumes nothing.
 use mathlib.Core.Path.{ap, ◌∙◌}
 use lib.Dec.{leb}
-use borrow.Author.Rules.{rules}
 use Rattle.line_layout.proofs.LinesHeld as held
 use Rattle.line_layout.proofs.lines.is_lost.Goals as goal
 

@@ -2,15 +2,14 @@
 use mathlib.Core.Path.{sym}
 use mathlib.Core.Bool.{Bool}
 use mathlib.Core.List.{List}
-use Prim.Native.Nat.{ℕ, ◌-◌}
+use Prim.Native.Nat.{ℕ}
 use native.Mathlib.Omega.{arith}
 use lib.Dec.{leb}
 use lib.ListN.{length, get_or}
-use borrow.Author.Rules.{rules}
-use borrow.Author.Tests.{le-leb, lt-leb}
-use Rattle.reverb_tuning.specs.Tuning.{line_count, reverb_lines}
+use borrow.Author.Tests.{le-leb}
+use Rattle.reverb_tuning.specs.Tuning.{reverb_lines}
 use Rattle.reverb_tuning.proofs.Tunings.{lines_length}
-use Rattle.theory_tables.proofs.Firsts.{Looked, look_start, look_on, some_hit, some_none}
+use Rattle.theory_tables.proofs.Firsts.{some_hit, some_none}
 use Rattle.line_layout.proofs.lines.reverb_lost.Goals as goal
 
 -- `lines::reverb_lost` meets its contract: it has looked at the lines below j. The measure is lineCount - j. Assumes nothing.

@@ -1,7 +1,6 @@
 -- `starts::needed` meets its contract: it reads the table of starts at the last end. Assumes nothing.
 use mathlib.Core.Path.{ap, ◌∙◌}
 use native.Mathlib.Omega.{arith}
-use borrow.Author.Rules.{rules}
 use Rattle.line_layout.specs.Layout.{start_of}
 use Rattle.line_layout.proofs.LineStarts.{starts_at}
 use Rattle.line_layout.proofs.starts.needed.Goals as goal

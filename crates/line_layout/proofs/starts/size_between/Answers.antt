@@ -1,7 +1,6 @@
 -- `starts::size_between` meets its contract: natural subtraction is 0 where the code returns 0. Assumes nothing.
 use native.Mathlib.Omega.{arith}
 use Rattle.line_layout.specs.Layout.{size_of}
-use borrow.Author.Rules.{rules}
 use Rattle.line_layout.proofs.starts.size_between.Goals as goal
 
 pub returns-then-a-b : goal.returns-then-a-b

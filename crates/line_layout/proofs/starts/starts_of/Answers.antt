@@ -1,10 +1,8 @@
 -- `starts::starts_of` meets its contract. The loop's invariant: the starts up to place i stand, and the last of them is at most i times what one stage can have. The measure is places - i. Assumes nothing.
 use mathlib.Core.Path.{◌≡◌, refl, ◌∙◌}
-use Prim.Native.Nat.{ℕ, ◌+◌, ◌*◌, ◌-◌, ◌≤◌, ◌<◌}
+use Prim.Native.Nat.{◌+◌}
 use native.Mathlib.Omega.{arith}
-use lib.ListN.{length, get_or, length-set}
-use borrow.Author.Rules.{rules}
-use Rattle.reverb_tuning.specs.Tuning.{line_count}
+use lib.ListN.{length-set}
 use Rattle.memories.specs.Sizes.{places}
 use Rattle.line_layout.specs.Layout.{start_of}
 use Rattle.stage.proofs.Listed.{listed_more, listed_all}

@@ -1,4 +1,3 @@
-use borrow.Author.Rules.{rules}
 use Rattle.plain_effects.specs.PanningControl.{panning_of}
 use Rattle.plain_effects.proofs.panning_control.process.Goals as goal
 

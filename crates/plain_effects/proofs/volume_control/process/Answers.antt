@@ -1,7 +1,6 @@
 -- The volume is an i32 on its way to `amplitude`, and read back as the same number. Assumes nothing.
 use mir.Syntax.{w32}
 use mir.ValLaws.{to_z-of_z}
-use borrow.Author.Rules.{rules}
 use Rattle.plain_effects.specs.VolumeControl.{volume_of}
 use Rattle.plain_effects.proofs.volume_control.process.Goals as goal
 

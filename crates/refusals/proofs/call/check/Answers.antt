@@ -2,7 +2,6 @@
 use mathlib.Core.Path.{◌≡◌, ap, ◌∙◌}
 use native.Mathlib.Omega.{arith}
 use lib.ListN.{get_or}
-use borrow.Author.Rules.{rules}
 use Rattle.line_layout.specs.Layout.{needed_of}
 use Rattle.line_layout.proofs.LineStarts.{starts_at}
 use Rattle.top_stages.specs.declared.Tops.{Tops}

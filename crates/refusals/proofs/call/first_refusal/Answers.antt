@@ -3,7 +3,6 @@ use mathlib.Core.Bool.{not}
 use mathlib.Core.Path.{ap, refl, ◌∙◌}
 use mathlib.Core.List.{List}
 use native.Mathlib.Omega.{arith}
-use borrow.Author.Rules.{rules}
 use Rattle.theory_tables.specs.Rows.{Row, first_row}
 use Rattle.theory_tables.proofs.Tested.{Gives}
 use Rattle.answer.specs.declared.Answer.{Answer}

@@ -2,8 +2,6 @@
 use Rattle.stage.specs.declared.setup.Setup.{Setup}
 use mathlib.Core.Path.{refl, ap, ◌∙◌}
 use Prim.Native.Nat.{ℕ}
-use lib.ListN.{drop}
-use borrow.Author.Rules.{rules}
 use borrow.Author.Tests.{lt-ltb, le-ltb}
 use Rattle.theory_tables.proofs.Bools.{less_so, less_not}
 use Rattle.theory_tables.proofs.Tested.{Gives, row_hit, row_pass, row_none}

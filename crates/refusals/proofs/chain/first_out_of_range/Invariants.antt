@@ -1,11 +1,7 @@
 -- `chain::first_out_of_range` meets its contract: it has looked at the numbers below i. The measure is what is left to look at. Assumes nothing.
-use mathlib.Core.Path.{ap, sym, ◌∙◌}
-use mathlib.Core.Bool.{not}
 use Prim.Native.Nat.{◌-◌}
-use native.Mathlib.Omega.{arith}
-use borrow.Author.Rules.{rules}
 use Rattle.theory_tables.specs.Condition.{decide}
-use Rattle.theory_tables.proofs.Firsts.{Looked, look_start, look_on, look_found, look_over}
+use Rattle.theory_tables.proofs.Firsts.{Looked}
 use Rattle.stage.specs.Setup.{used_of}
 use Rattle.refusals.specs.Refusals.{out_of_range}
 use Rattle.refusals.proofs.chain.first_out_of_range.Given as goal

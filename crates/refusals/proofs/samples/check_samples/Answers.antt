@@ -5,7 +5,6 @@ use lib.Ieee.{Float}
 use mathlib.Core.Path.{◌≡◌, refl, ap, ◌∙◌}
 use native.Mathlib.Omega.{arith}
 use lib.ListN.{length}
-use borrow.Author.Rules.{rules}
 use Rattle.theory_tables.specs.First.{first_of}
 use Rattle.theory_tables.specs.Condition.{decide}
 use Rattle.theory_tables.proofs.Bools.{less_so, less_not}

@@ -1,14 +1,9 @@
 -- `samples::first_bad` meets its contract: below `from` no sample counts as bad, and it has looked at those below i. The measure is what is left to look at. Assumes nothing.
 use mathlib.Core.Path.{ap}
 use mathlib.Core.Bool.{not}
-use Prim.Native.Nat.{◌-◌, ◌≤◌}
 use native.Mathlib.Omega.{arith}
-use lib.ListN.{length}
-use borrow.Author.Rules.{rules}
-use borrow.Author.Tests.{le-leb, lt-leb}
-use Rattle.theory_tables.specs.Condition.{decide}
-use Rattle.theory_tables.proofs.Firsts.{Looked, look_on, look_found, look_over}
-use Rattle.refusals.specs.Refusals.{bad_sample}
+use borrow.Author.Tests.{le-leb}
+use Rattle.theory_tables.proofs.Firsts.{look_found, look_over}
 use Rattle.refusals.proofs.samples.first_bad.Goals as goal
 
 pub returns-then-not-is_finite_f32 : goal.returns-then-not-is_finite_f32

@@ -1,11 +1,8 @@
 -- `samples::first_bad` meets its contract: below `from` no sample counts as bad, and it has looked at those below i. The measure is what is left to look at. Assumes nothing.
 use Prim.Native.Nat.{◌-◌, ◌≤◌}
-use native.Mathlib.Omega.{arith}
 use lib.ListN.{length}
-use borrow.Author.Rules.{rules}
-use borrow.Author.Tests.{le-leb, lt-leb}
 use Rattle.theory_tables.specs.Condition.{decide}
-use Rattle.theory_tables.proofs.Firsts.{Looked, look_on, look_found, look_over}
+use Rattle.theory_tables.proofs.Firsts.{Looked}
 use Rattle.refusals.specs.Refusals.{bad_sample}
 use Rattle.refusals.proofs.samples.first_bad.Given as goal
 

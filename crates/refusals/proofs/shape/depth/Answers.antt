@@ -1,11 +1,9 @@
 -- `shape::depth` meets its contract. The loop's invariant: n counts the owners among the places passed. The measure is i - j. Assumes nothing.
 use mathlib.Core.Path.{◌≡◌, refl, ap, ◌∙◌}
 use mathlib.Core.Bool.{Bool, cond}
-use mathlib.Core.Logic.{⊎_elim}
-use Prim.Native.Nat.{ℕ, ◌+◌, ◌-◌, ◌≤◌}
+use Prim.Native.Nat.{ℕ, ◌+◌}
 use native.Mathlib.Omega.{arith}
 use native.Mathlib.Numerals.{add-one}
-use borrow.Author.Rules.{rules}
 use Rattle.theory_tables.specs.Condition.{decide}
 use Rattle.stage.specs.declared.setup.Setup.{Setup}
 use Rattle.refusals.specs.Shape.{owns, depth_of}

@@ -1,10 +1,7 @@
 -- `shape::first_outgrown` meets its contract: it has looked at the numbers below j. The measure is what is left to look at. Assumes nothing.
-use mathlib.Core.Path.{sym, ◌∙◌}
 use Prim.Native.Nat.{◌-◌}
-use native.Mathlib.Omega.{arith}
-use borrow.Author.Rules.{rules}
 use Rattle.theory_tables.specs.Condition.{decide}
-use Rattle.theory_tables.proofs.Firsts.{Looked, look_start, look_on, look_found, look_over}
+use Rattle.theory_tables.proofs.Firsts.{Looked}
 use Rattle.refusals.specs.Shape.{outgrows}
 use Rattle.refusals.proofs.shape.first_outgrown.Given as goal
 

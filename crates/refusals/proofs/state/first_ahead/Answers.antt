@@ -1,11 +1,7 @@
 -- `state::first_ahead` meets its contract: it has looked at the numbers below k. The measure is what is left to look at. Assumes nothing.
 use mathlib.Core.Path.{sym, ◌∙◌}
-use Prim.Native.Nat.{◌-◌}
 use native.Mathlib.Omega.{arith}
-use borrow.Author.Rules.{rules}
-use Rattle.theory_tables.specs.Condition.{decide}
-use Rattle.theory_tables.proofs.Firsts.{Looked, look_start, look_on, look_found, look_over}
-use Rattle.refusals.specs.Refusals.{ahead_at}
+use Rattle.theory_tables.proofs.Firsts.{look_found, look_over}
 use Rattle.refusals.proofs.state.first_ahead.Goals as goal
 
 pub returns-then-is_ahead : goal.returns-then-is_ahead

@@ -2,11 +2,9 @@
 use mathlib.Core.Path.{◌≡◌, sym, ◌∙◌}
 use Prim.Native.Nat.{◌+◌, ◌*◌, ◌-◌}
 use native.Mathlib.Omega.{arith}
-use borrow.Author.Rules.{rules}
 use Rattle.theory_tables.specs.Condition.{decide}
-use Rattle.theory_tables.proofs.Firsts.{Looked, look_start, look_on, look_found, look_over}
+use Rattle.theory_tables.proofs.Firsts.{look_found, look_over}
 use Rattle.memories.specs.Sizes.{place_positions}
-use Rattle.stage.specs.Setup.{used_of}
 use Rattle.refusals.specs.Refusals.{lost_at}
 use Rattle.refusals.proofs.state.first_lost.Goals as goal
 use Rattle.refusals.proofs.state.first_lost.Goals.{After-is_lost}

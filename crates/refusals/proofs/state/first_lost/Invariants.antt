@@ -1,11 +1,7 @@
 -- `state::first_lost` meets its contract: it has looked at the stages below i. The measure is what is left to look at. Assumes nothing.
-use mathlib.Core.Path.{◌≡◌, sym, ◌∙◌}
-use Prim.Native.Nat.{◌+◌, ◌*◌, ◌-◌}
-use native.Mathlib.Omega.{arith}
-use borrow.Author.Rules.{rules}
+use Prim.Native.Nat.{◌-◌}
 use Rattle.theory_tables.specs.Condition.{decide}
-use Rattle.theory_tables.proofs.Firsts.{Looked, look_start, look_on, look_found, look_over}
-use Rattle.memories.specs.Sizes.{place_positions}
+use Rattle.theory_tables.proofs.Firsts.{Looked}
 use Rattle.stage.specs.Setup.{used_of}
 use Rattle.refusals.specs.Refusals.{lost_at}
 use Rattle.refusals.proofs.state.first_lost.Given as goal

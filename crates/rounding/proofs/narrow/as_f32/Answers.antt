@@ -1,14 +1,11 @@
 use mathlib.Core.Path.{sym, ap, ◌∙◌, subst}
-use mathlib.Core.Logic.{⊎_elim}
 use Prim.Native.Nat.{◌^◌, ◌≤◌}
 use native.Mathlib.Nat.{zero-add}
 use native.Mathlib.Omega.{arith}
 use mathlib.Core.Bool.{true, false}
-use borrow.Author.Rules.{rules}
 use borrow.Author.Tests.{le-leb, lt-leb}
-use lib.Dec.{T}
 use denote.Floats.{passes}
-use lib.Ieee.{binary32, binary64, fits, of_bits, to_bits}
+use lib.Ieee.{binary32, binary64, of_bits, to_bits}
 use Rattle.rounding.specs.Narrow.{narrow_of}
 use Rattle.float.proofs.Patterns.{no_nan, no_nan_negative}
 use Rattle.float.proofs.Nan.{nan_is, is_nan_lem, not_nan}
@@ -21,12 +18,14 @@ joined : (c : Joined-rest-lt9218868437227405312) → Bits c.args.x c.if-rest-lt9
 joined c =
     let x = c.args.x in
     elim c.if-rest-lt9218868437227405312.branch [
-      then-rest-lt9218868437227405312 w ↦ (
+      | then-rest-lt9218868437227405312 w ↦ (
         subst (Bits x) (sym w.size-is) (of_finite x w.narrowed-size.result (passes _ c.well_formed.0.1) w.narrowed-size.ensures.0),
-        omega (arith, w.size-is, w.narrowed-size.ensures.1))
-    | else-rest-lt9218868437227405312 w ↦ (
+        omega (arith, w.size-is, w.narrowed-size.ensures.1),
+      )
+      | else-rest-lt9218868437227405312 w ↦ (
         subst (Bits x) (sym w.size-is) (of_infinite x (passes _ c.well_formed.0.1) (not_nan x c.if-x.false) w.if-rest-lt9218868437227405312.false),
-        omega (arith, w.size-is))
+        omega (arith, w.size-is),
+      )
     ]
 
 pub returns-then-x : goal.returns-then-x

@@ -1,7 +1,6 @@
 use mathlib.Core.Path.{sym, ◌∙◌, subst}
 use Prim.Native.Nat.{◌+◌, ◌-◌, ◌^◌, zero-le}
 use native.Mathlib.Omega.{arith}
-use borrow.Author.Rules.{rules}
 use Rattle.rounding.proofs.Narrowing.{Narrowed, fields_tiny, fields_subnormal, fields_normal}
 use Rattle.rounding.proofs.Quotients.{quotient_shl, quotient_pow}
 use Rattle.rounding.proofs.narrow.narrowed.Goals as goal

@@ -1,8 +1,7 @@
 -- `quotient::nearest_quotient` meets its contract, by the laws of proofs/Quotients.antt. Assumes nothing.
 use native.Mathlib.Nat.{mod-lt}
 use native.Mathlib.Omega.{arith}
-use borrow.Author.Rules.{rules}
-use Rattle.rounding.proofs.Quotients.{no_quotient, rounds_down, rounds_up, rounds_even, half_at_most}
+use Rattle.rounding.proofs.Quotients.{no_quotient, rounds_down, rounds_up, rounds_even}
 use Rattle.rounding.proofs.quotient.nearest_quotient.Goals as goal
 
 pub returns-then-b-eq0 : goal.returns-then-b-eq0

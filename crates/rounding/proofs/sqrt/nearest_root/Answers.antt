@@ -1,6 +1,5 @@
 use Prim.Native.Nat.{◌*◌, ◌/◌, ◌^◌}
 use native.Mathlib.Omega.{arith}
-use borrow.Author.Rules.{rules}
 use Rattle.rounding.proofs.WholeRoot.{nearest_up, nearest_down}
 use Rattle.rounding.proofs.sqrt.nearest_root.Goals as goal
 

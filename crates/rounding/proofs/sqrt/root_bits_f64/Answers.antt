@@ -1,7 +1,6 @@
 use mathlib.Core.Path.{ap, ◌∙◌}
-use mathlib.Core.Logic.{⊎_elim, inl, inr}
+use mathlib.Core.Logic.{inl, inr}
 use native.Mathlib.Omega.{arith}
-use borrow.Author.Rules.{rules}
 use lib.Ieee.{binary64, of_bits}
 use Rattle.rounding.proofs.RootLaw.{Found, found}
 use Rattle.rounding.proofs.sqrt.root_bits_f64.Goals as goal

@@ -1,9 +1,7 @@
 use mathlib.Core.Path.{◌≡◌}
-use mathlib.Core.Logic.{⊎_elim}
 use Prim.Native.Nat.{suc, ◌+◌, ◌-◌, ◌*◌, ◌/◌, ◌≤◌}
 use native.Mathlib.Omega.{arith}
-use borrow.Author.Rules.{rules}
-use lib.Count.{count_leading_zeros, leading_le}
+use lib.Count.{count_leading_zeros}
 use Rattle.rounding.proofs.Aligned.{lead, aligned_root}
 use Rattle.rounding.proofs.sqrt.scaled_root.Goals as goal
 use Rattle.rounding.proofs.sqrt.scaled_root.Goals.{then-length-eq0, else-length-eq0}

@@ -1,12 +1,11 @@
 use mathlib.Core.Path.{ap, ◌∙◌}
-use borrow.Author.Rules.{rules}
 use lib.Dec.{T}
 use denote.Floats.{passes}
 use lib.Ieee.{binary32, fits}
 use lib.Ieee.Bits.{of_bits-to_bits}
 use Rattle.rounding.specs.Root.{sqrt_of}
 use Rattle.float.proofs.Patterns.{no_nan}
-use Rattle.rounding.proofs.Roots.{above_not_nan, above_bits, root_of_inf, root_of_zero, root_of_negative}
+use Rattle.rounding.proofs.Roots.{above_bits, root_of_inf, root_of_zero, root_of_negative}
 use Rattle.rounding.proofs.sqrt.sqrt_f32.Goals as goal
 use Rattle.rounding.proofs.sqrt.sqrt_f32.Goals.{Start}
 

@@ -5,7 +5,7 @@ use lib.Ieee.{binary64, fits}
 use lib.Ieee.Bits.{of_bits-to_bits}
 use Rattle.rounding.specs.Root.{sqrt_of}
 use Rattle.float.proofs.Patterns.{no_nan}
-use Rattle.rounding.proofs.Roots.{above_not_nan, above_bits, root_of_inf, root_of_zero, root_of_negative}
+use Rattle.rounding.proofs.Roots.{above_bits, root_of_inf, root_of_zero, root_of_negative}
 use Rattle.rounding.proofs.sqrt.sqrt_f64.Goals as goal
 use Rattle.rounding.proofs.sqrt.sqrt_f64.Goals.{Start}
 

@@ -1,7 +1,6 @@
-use mathlib.Core.Path.{◌≡◌, subst}
-use Prim.Native.Nat.{ℕ, ◌≤◌, ◌<◌, ◌-◌, ◌+◌, ◌*◌, ◌%◌, ◌^◌}
+use Prim.Native.Nat.{◌<◌, ◌+◌, ◌*◌, ◌%◌, ◌^◌}
 use native.Mathlib.Omega.{arith}
-use Rattle.rounding.proofs.RootDigit.{Turn, no_turn, bound, digit_one, digit_nought, all_turns, moved}
+use Rattle.rounding.proofs.RootDigit.{bound, digit_one, digit_nought, moved}
 use Rattle.rounding.proofs.sqrt.whole_root.Goals as goal
 use Rattle.rounding.proofs.sqrt.whole_root.Goals.{In-loop-i, then-trial-next, else-trial-next}
 
@@ -28,6 +27,7 @@ loop-i-preserved c =
       omega arith,
       l.invariant.1,
       elim c.if-trial-next.branch [
-        then-trial-next a ↦ moved w (l.i + 1) (l.word % 2 ^ 62 * 4) a.root-is a.rest-is (digit_one w l.i l.root l.rest l.word l.invariant.2 a.if-trial-next.true)
-      | else-trial-next a ↦ moved w (l.i + 1) (l.word % 2 ^ 62 * 4) a.root-is a.rest-is (digit_nought w l.i l.root l.rest l.word l.invariant.2 a.if-trial-next.false)
-      ])
+        | then-trial-next a ↦ moved w (l.i + 1) (l.word % 2 ^ 62 * 4) a.root-is a.rest-is (digit_one w l.i l.root l.rest l.word l.invariant.2 a.if-trial-next.true)
+        | else-trial-next a ↦ moved w (l.i + 1) (l.word % 2 ^ 62 * 4) a.root-is a.rest-is (digit_nought w l.i l.root l.rest l.word l.invariant.2 a.if-trial-next.false)
+      ],
+    )

@@ -1,8 +1,5 @@
-use mathlib.Core.Path.{◌≡◌, subst}
-use Prim.Native.Nat.{ℕ, ◌≤◌, ◌<◌, ◌-◌, ◌+◌, ◌*◌, ◌%◌, ◌^◌}
-use mathlib.Core.Logic.{⊎_elim}
-use native.Mathlib.Omega.{arith}
-use Rattle.rounding.proofs.RootDigit.{Turn, no_turn, bound, digit_one, digit_nought, all_turns, moved}
+use Prim.Native.Nat.{◌≤◌, ◌-◌}
+use Rattle.rounding.proofs.RootDigit.{Turn}
 use Rattle.rounding.proofs.sqrt.whole_root.Given as goal
 
 abbrev pub invariant-loop-i : goal.invariant-loop-i

@@ -1,9 +1,7 @@
 -- The loop copies as proofs/Copied.antt has it. The measure is what is left to copy. Assumes nothing.
-use Prim.Native.Nat.{◌-◌}
 use native.Mathlib.Omega.{arith}
 use lib.Ieee.{nan}
-use lib.ListN.{length}
-use Rattle.sedhavil.proofs.Copied.{Copied, copied_none, copied_more, copied_all}
+use Rattle.sedhavil.proofs.Copied.{copied_all}
 use Rattle.sedhavil.proofs.slices.copy_floats.Goals as goal
 
 pub returns : goal.returns

@@ -1,5 +1,4 @@
 -- `kind::holding_of` meets its contract: a reverb and a delay are known, and no other kind holds anything. Assumes nothing.
-use borrow.Author.Rules.{rules}
 use Rattle.stage.specs.Holding.{holding_of}
 use Rattle.stage.proofs.Unnamed.{holds_none}
 use Rattle.stage.proofs.kind.holding_of.Goals as goal

@@ -2,7 +2,6 @@
 use mir.Syntax.{w32}
 use mir.ValLaws.{to_z-of_z}
 use Rattle.stage.specs.Range.{delay_range}
-use borrow.Author.Rules.{rules}
 use Rattle.stage.proofs.range.delay_in_range.Goals as goal
 
 pub returns : goal.returns

@@ -4,7 +4,6 @@ use native.Mathlib.Omega.{arith}
 use Rattle.stage.specs.declared.kind.Holding.{Holding}
 use Rattle.stage.specs.Holding.{owned_of}
 use Rattle.stage.proofs.Next.{next_inside, next_outside}
-use borrow.Author.Rules.{rules}
 use Rattle.stage.proofs.setup.next_place.Goals as goal
 use Rattle.stage.proofs.setup.next_place.Goals.{After-holding_of-holding}
 

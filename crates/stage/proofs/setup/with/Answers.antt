@@ -1,5 +1,4 @@
 -- `setup::with` meets its contract: the definition asks what the code does. Assumes nothing.
-use borrow.Author.Rules.{rules}
 use borrow.Author.Tests.{lt-ltb, le-ltb}
 use Rattle.stage.specs.Setup.{with_stage}
 use Rattle.stage.proofs.setup.with.Goals as goal

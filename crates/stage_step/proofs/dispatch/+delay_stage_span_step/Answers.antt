@@ -1,9 +1,8 @@
 -- `dispatch::{delay_stage, span, step}`, which call one another, meet their contracts. In `step` each kind's promise is the definition at that kind. Assumes nothing.
-use Rattle.std.proofs.Common.{◌≡◌, ℕ, min, length, ap, ◌∙◌, arith, rules}
+use Rattle.std.proofs.Common.{min, length, ap, ◌∙◌, arith, rules}
 use mir.Syntax.{w32}
 use mir.Val.{SFits}
 use mir.ValLaws.{to_z-of_z}
-use lib.Seq.{length-take-le}
 use Rattle.decibels.specs.Amplitude.{amplitude_of}
 use Rattle.line.specs.Held.{holds}
 use Rattle.stage_step.specs.Step.{stage_step}

@@ -2,7 +2,6 @@
 use mathlib.Core.Path.{sym}
 use Prim.Native.Nat.{◌≤◌, ◌<◌}
 use native.Mathlib.Omega.{arith}
-use borrow.Author.Rules.{rules}
 use Rattle.memories.specs.Sizes.{places}
 use Rattle.stage_step.proofs.Steps.{place_inside, place_empty, place_past}
 use Rattle.stage_step.proofs.place.process.Goals as goal

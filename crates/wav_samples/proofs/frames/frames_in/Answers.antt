@@ -1,10 +1,9 @@
 -- `frames::frames_in` meets its contract. The loop's invariant: the first i samples are those of the bytes, and the rest is as it was. The measure is what is left to do. Assumes nothing.
 use mathlib.Core.List.{◌++◌}
 use mathlib.Core.Path.{◌≡◌, refl, ap, ◌∙◌}
-use Prim.Native.Nat.{◌-◌, ◌*◌, ◌≤◌}
+use Prim.Native.Nat.{◌*◌}
 use native.Mathlib.Omega.{arith}
-use borrow.Author.Rules.{rules}
-use lib.ListN.{length, set, drop, length-set}
+use lib.ListN.{set, drop, length-set}
 use Rattle.wav_samples.specs.Frames.{whole_frames, sample_at, samples_of, samples_in}
 use Rattle.wav_samples.proofs.Blocks.{samples_none, samples_more}
 use Rattle.wav_samples.proofs.frames.frames_in.Goals as goal

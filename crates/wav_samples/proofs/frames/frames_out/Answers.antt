@@ -1,9 +1,8 @@
 -- `frames::frames_out` meets its contract. The loop's invariant: the first 2i bytes are those of i samples, and the rest is as it was. The measure is what is left to do. Assumes nothing.
 use mathlib.Core.List.{◌++◌}
 use mathlib.Core.Path.{◌≡◌, refl, ap, ◌∙◌}
-use Prim.Native.Nat.{◌+◌, ◌-◌, ◌*◌, ◌≤◌}
+use Prim.Native.Nat.{◌+◌, ◌*◌}
 use native.Mathlib.Omega.{arith}
-use borrow.Author.Rules.{rules}
 use lib.ListN.{length, set, drop, get_or, length-set}
 use lib.Ieee.{nan}
 use Rattle.wav_samples.specs.Frames.{whole_frames, low_of, high_of, bytes_of, bytes_out}

@@ -1,6 +1,5 @@
 -- `frames::put_sample` meets its contract. Assumes nothing.
 use mathlib.Core.Path.{ap, ◌∙◌}
-use borrow.Author.Rules.{rules}
 use Rattle.wav_samples.specs.Pcm.{code_of}
 use Rattle.wav_samples.specs.Frames.{low_of, high_of}
 use Rattle.wav_samples.proofs.Signed as sg

@@ -1,6 +1,5 @@
 -- `frames::sample_at` meets its contract. Assumes nothing.
 use mathlib.Core.Path.{ap, ◌∙◌}
-use borrow.Author.Rules.{rules}
 use Rattle.wav_samples.specs.Frames.{sample_at}
 use Rattle.wav_samples.specs.Pcm.{signed_of}
 use Rattle.wav_samples.specs.Sample.{sample_in}

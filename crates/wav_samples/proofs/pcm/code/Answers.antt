@@ -1,9 +1,7 @@
 -- `pcm::code` meets its contract, by the laws of proofs/Signed.antt. Assumes nothing.
-use Rattle.std.proofs.Common.{◌≡◌, arith}
+use Rattle.std.proofs.Common.{arith}
 use lib.Signed.{mag}
-use lib.IntN.{ℤ, pos}
-use mir.Syntax.{w16}
-use mir.Val.{to_z, of_z}
+use lib.IntN.{pos}
 use Rattle.wav_samples.proofs.Signed as sg
 use Rattle.wav_samples.proofs.pcm.code.Goals as goal
 use Rattle.wav_samples.proofs.pcm.code.Goals.{Then-s-ge0, Else-s-ge0}

@@ -1,7 +1,6 @@
 -- `pcm::signed` meets its contract, by the laws of proofs/Signed.antt. Assumes nothing.
 use mathlib.Core.Path.{◌∙◌}
 use native.Mathlib.Omega.{arith}
-use borrow.Author.Rules.{rules}
 use mir.Facts.{to_z_pos}
 use mir.Syntax.{w16}
 use Rattle.wav_samples.proofs.Signed as sg

@@ -1,6 +1,5 @@
 -- `sample::above_zero` meets its contract. Assumes nothing.
 use mathlib.Core.Path.{◌∙◌}
-use borrow.Author.Rules.{rules}
 use mir.Syntax.{w16}
 use mir.Facts.{to_z_pos}
 use Rattle.wav_samples.proofs.Signed as sg

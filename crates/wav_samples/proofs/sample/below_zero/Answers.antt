@@ -1,7 +1,6 @@
 -- `sample::below_zero` meets its contract. Assumes nothing.
 use mathlib.Core.Path.{◌∙◌}
 use native.Mathlib.Omega.{arith}
-use borrow.Author.Rules.{rules}
 use Rattle.wav_samples.specs.Sample.{held_of}
 use Rattle.wav_samples.proofs.Signed as sg
 use Rattle.wav_samples.proofs.sample.below_zero.Goals as goal

@@ -1,5 +1,4 @@
 -- `sample::sample_in` meets its contract: the division is of two floats that are whole numbers. Assumes nothing.
-use borrow.Author.Rules.{rules}
 use Rattle.wav_samples.proofs.Steps.{in_is}
 use Rattle.wav_samples.proofs.Signed as sg
 use Rattle.wav_samples.proofs.sample.sample_in.Goals as goal

@@ -2,7 +2,6 @@
 use mathlib.Core.Bool.{true, false}
 use Prim.Native.Nat.{◌^◌}
 use borrow.Author.Tests.{le-leb, lt-leb}
-use borrow.Author.Rules.{rules}
 use denote.Floats.{passes}
 use Rattle.wav_samples.proofs.Steps.{bits_out}
 use Rattle.wav_samples.proofs.sample.sample_out.Goals as goal

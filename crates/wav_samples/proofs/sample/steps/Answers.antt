@@ -2,7 +2,6 @@
 use mathlib.Core.Path.{◌∙◌}
 use Prim.Native.Nat.{◌+◌, ◌-◌, ◌^◌, zero-le}
 use native.Mathlib.Omega.{arith}
-use borrow.Author.Rules.{rules}
 use lib.Dec.{lit≤}
 use Rattle.rounding.proofs.Quotients.{quotient_shl}
 use Rattle.wav_samples.proofs.Steps.{nan_steps, inf_steps, large_steps, small_steps, middle_steps}

@@ -3,7 +3,6 @@ use mathlib.Core.Path.{◌≡◌}
 use mir.Syntax.{w32}
 use mir.ValLaws.{to_z-of_z}
 use lib.Ieee.{Float}
-use borrow.Author.Rules.{rules}
 use Rattle.float.specs.Clamp.{hundredth_of}
 use Rattle.decibels.specs.Amplitude.{eq_amplitude_of}
 use Rattle.filters.specs.declared.eq_filter.Coefficients.{Coefficients}
