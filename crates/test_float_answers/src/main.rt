@@ -53,14 +53,12 @@ fn say_agreed(rt: &impl Print, name: &str, agreed: u64, count: u64) -> io::Resul
 
 fn try_all(rt: &impl Print, name: &str, operation: Operation, count: usize) -> io::Result<()> {
     let mut agreed: u64 = 0;
-    let mut i: usize = 0;
-    while i < count {
+    for i in 0..count {
         if agrees(operation, i) {
             agreed += 1;
         } else {
             say_difference(rt, name, i)?;
         }
-        i += 1;
     }
     say_agreed(rt, name, agreed, count as u64)
 }
