@@ -50,10 +50,8 @@ fn byte(words: [u32; 11], i: usize) -> u8
 
 fn bytes_of(words: [u32; 11]) -> [u8; 44] {
     let mut bytes = [0; 44];
-    let mut i = 0;
-    while i < 44 {
+    for i in 0..44 {
         bytes[i] = byte(words, i);
-        i += 1;
     }
     bytes
 }
