@@ -83,12 +83,10 @@ fn counted(tally: Tally, i: u64, number: usize, is_same: bool) -> Tally {
 }
 
 fn say_refusals(rt: &impl Print, answers: &[u64]) -> io::Result<()> {
-    let mut k = 1;
-    while k < answers.len() {
+    for k in 1..answers.len() {
         let number = number_at(k);
         let count = answers[k];
         println!(rt; "refused {number}: {count}")?;
-        k += 1;
     }
     Ok(())
 }
@@ -100,12 +98,10 @@ fn run_cases(input: &mut impl Read, cases: usize) -> io::Result<Tally> {
         first_other: cases as u64,
         first_same: cases as u64,
     };
-    let mut i = 0;
-    while i < cases {
+    for i in 0..cases {
         let judged = next_case(input)?;
         let after = counted(tally, i as u64, judged.number, judged.is_same);
         tally = after;
-        i += 1;
     }
     Ok(tally)
 }
