@@ -202,12 +202,7 @@ fn at_rate(setup: Setup, rate: u32) -> Setup {
 // Takes a whole WAV file from standard input to standard output through this chain, at the file's rate
 // instead of the setup's. The program takes rates up to `highest`. Of a file that is refused, or cut inside
 // its header, nothing is written but the number, on the error output.
-pub fn stream(
-    rt: &(impl Input + Print + Eprint),
-    setup: Setup,
-    highest: u32,
-    store: &mut [f32],
-) {
+pub fn stream(rt: &(impl Input + Print + Eprint), setup: Setup, highest: u32, store: &mut [f32]) {
     let mut head = [0; 44];
     let n = read_full(rt, &mut head);
     let header = wav_header::read(&head[..n], highest);
