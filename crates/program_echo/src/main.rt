@@ -6,18 +6,18 @@ use answer::number;
 use chain::render::render;
 use float::bits::to_bits_f32;
 use fresh_start::start::start;
-use libc::STDOUT_FILENO;
 use memories::PLACES;
 use stage::kind::Stage;
 use stage::setup::{empty, with};
+use std::io;
 
 // One sample, as the eight digits of its bits, on a line of its own.
-fn say(sample: f32) {
-    io::print_hex(STDOUT_FILENO, to_bits_f32(sample) as u64, 8);
-    io::write_all(STDOUT_FILENO, b"\n");
+fn say(rt: &impl Print, sample: f32) -> io::Result<()> {
+    let bits = to_bits_f32(sample);
+    println!(rt; "{bits:08x}")
 }
 
-fn main() {
+fn main(rt: HostRuntime) -> io::Result<()> {
     let echo = Stage::Delay {
         frames: 1,
         feedback: 0,
@@ -30,8 +30,9 @@ fn main() {
     let fresh = start(setup, &mut store).memories;
     let answer = render(setup, &mut samples, fresh, &mut store, [0; PLACES]).answer;
     if number(answer) == 0 {
-        say(samples[0]);
-        say(samples[2]);
-        say(samples[4]);
+        say(&rt, samples[0])?;
+        say(&rt, samples[2])?;
+        say(&rt, samples[4])?;
     }
+    Ok(())
 }

@@ -3,7 +3,7 @@
 
 use stage::setup::empty;
 
-fn main() {
+fn main(rt: HostRuntime) {
     let mut store = [0.0; 0];
-    wav_stream::stream(empty(0), 192000, &mut store);
+    wav_stream::stream(&rt, empty(0), 192000, &mut store);
 }

@@ -5,7 +5,7 @@
 use stage::kind::Stage;
 use stage::setup::{empty, with};
 
-fn main() {
+fn main(rt: HostRuntime) {
     let mut store = [0.0; 12719];
     let reverb = Stage::Reverb {
         feedback: 0.9,
@@ -13,5 +13,5 @@ fn main() {
         stereo_width: 1.0,
         mix: 0.5,
     };
-    wav_stream::stream(with(empty(0), reverb), 22050, &mut store);
+    wav_stream::stream(&rt, with(empty(0), reverb), 22050, &mut store);
 }

@@ -49,11 +49,9 @@ fn put_entry(order: &mut [usize], i: usize, by_frame: bool) {
 
 // Fills the samples with noise, and the order, which has no more entries than there are samples.
 fn fill(samples: &mut [f32], order: &mut [usize], by_frame: bool) {
-    let mut i = 0;
-    while i < samples.len() {
+    for i in 0..samples.len() {
         samples[i] = noise(i);
         put_entry(order, i, by_frame);
-        i += 1;
     }
 }
 

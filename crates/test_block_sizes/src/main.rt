@@ -9,12 +9,11 @@ mod spoilt;
 
 use crate::echo::{Ended, echo};
 use float::bits::to_bits_f32;
-use libc::STDOUT_FILENO;
+use std::io;
 
-fn say_bits(name: &[u8], x: f32) {
-    io::write_all(STDOUT_FILENO, name);
-    io::print_hex(STDOUT_FILENO, to_bits_f32(x) as u64, 8);
-    io::write_all(STDOUT_FILENO, b"\n");
+fn say_bits(rt: &impl Print, name: &str, x: f32) -> io::Result<()> {
+    let bits = to_bits_f32(x);
+    println!(rt; "{name}{bits:08x}")
 }
 
 // Whether two ways left the same samples, line and memories, bit for bit.
@@ -39,39 +38,41 @@ fn is_same(a: Ended, b: Ended) -> bool {
     same_slices::numbers(&positions, &other_positions)
 }
 
-fn compare(name: &[u8], ended: Ended, first: Ended) {
-    io::write_all(STDOUT_FILENO, name);
+fn compare(rt: &impl Print, name: &str, ended: Ended, first: Ended) -> io::Result<()> {
     if is_same(ended, first) {
-        io::write_all(STDOUT_FILENO, b"the same bits\n");
+        println!(rt; "{name}the same bits")
     } else {
-        io::write_all(STDOUT_FILENO, b"other bits\n");
+        println!(rt; "{name}other bits")
     }
 }
 
-fn main() {
+fn main(rt: HostRuntime) -> io::Result<()> {
     let mut whole = [0; 8192];
     let mut part = [0; 128];
     let first = echo(&mut whole, true);
     let samples = first.samples;
-    say_bits(b"frame 150, left: ", samples[300]);
-    say_bits(b"frame 4095, right: ", samples[8191]);
+    say_bits(&rt, "frame 150, left: ", samples[300])?;
+    say_bits(&rt, "frame 4095, right: ", samples[8191])?;
     compare(
-        b"one block, stage after stage: ",
+        &rt,
+        "one block, stage after stage: ",
         echo(&mut whole, false),
         first,
-    );
+    )?;
     compare(
-        b"64 blocks, frame after frame: ",
+        &rt,
+        "64 blocks, frame after frame: ",
         echo(&mut part, true),
         first,
-    );
+    )?;
     compare(
-        b"64 blocks, stage after stage: ",
+        &rt,
+        "64 blocks, stage after stage: ",
         echo(&mut part, false),
         first,
-    );
-    compare(b"a spoilt sample: ", spoilt::sample(first), first);
-    compare(b"a spoilt line: ", spoilt::line(first), first);
-    compare(b"a spoilt float: ", spoilt::float(first), first);
-    compare(b"a spoilt position: ", spoilt::position(first), first);
+    )?;
+    compare(&rt, "a spoilt sample: ", spoilt::sample(first), first)?;
+    compare(&rt, "a spoilt line: ", spoilt::line(first), first)?;
+    compare(&rt, "a spoilt float: ", spoilt::float(first), first)?;
+    compare(&rt, "a spoilt position: ", spoilt::position(first), first)
 }

@@ -8,28 +8,30 @@ mod list;
 mod say;
 mod unchanged;
 
-fn main() {
-    list::rates();
-    list::counts();
-    list::depths();
-    list::owned();
-    list::most_owned();
-    list::volumes();
-    list::delays();
-    list::feedbacks();
-    list::equalizers();
-    list::distortions();
-    list::stores();
-    block::positions();
-    block::lengths();
-    block::progress();
-    block::samples();
-    block::owning();
-    block::orders();
-    block::empty();
-    unchanged::refused_step();
-    unchanged::taken_step();
-    unchanged::cleared();
-    unchanged::refused_start();
-    unchanged::rendered();
+use std::io;
+
+fn main(rt: HostRuntime) -> io::Result<()> {
+    list::rates(&rt)?;
+    list::counts(&rt)?;
+    list::depths(&rt)?;
+    list::owned(&rt)?;
+    list::most_owned(&rt)?;
+    list::volumes(&rt)?;
+    list::delays(&rt)?;
+    list::feedbacks(&rt)?;
+    list::equalizers(&rt)?;
+    list::distortions(&rt)?;
+    list::stores(&rt)?;
+    block::positions(&rt)?;
+    block::lengths(&rt)?;
+    block::progress(&rt)?;
+    block::samples(&rt)?;
+    block::owning(&rt)?;
+    block::orders(&rt)?;
+    block::empty(&rt)?;
+    unchanged::refused_step(&rt)?;
+    unchanged::taken_step(&rt)?;
+    unchanged::cleared(&rt)?;
+    unchanged::refused_start(&rt)?;
+    unchanged::rendered(&rt)
 }

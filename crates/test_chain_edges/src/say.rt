@@ -1,10 +1,10 @@
 // What the cases share: stages, a call, and the line that is written for its answer.
 use answer::{Answer, number, place};
 use chain::run::run;
-use libc::STDOUT_FILENO;
 use memories::{Memories, PLACES, zero};
 use stage::kind::Stage;
 use stage::setup::{Setup, Slot};
+use std::io;
 
 pub(crate) fn volume(volume: i32) -> Stage {
     Stage::VolumeControl { volume }
@@ -39,40 +39,44 @@ pub(crate) fn counts(first: usize, second: usize) -> [usize; PLACES] {
     progress
 }
 
-pub(crate) fn say_number(name: &[u8], n: u64) {
-    io::write_all(STDOUT_FILENO, name);
-    io::write_all(STDOUT_FILENO, b" ");
-    io::print_decimal(STDOUT_FILENO, n);
-    io::write_all(STDOUT_FILENO, b"\n");
+pub(crate) fn say_number(rt: &impl Print, name: &str, n: u64) -> io::Result<()> {
+    println!(rt; "{name} {n}")
 }
 
-pub(crate) fn say(name: &[u8], answer: Answer) {
-    io::write_all(STDOUT_FILENO, name);
-    io::write_all(STDOUT_FILENO, b" ");
-    io::print_decimal(STDOUT_FILENO, number(answer) as u64);
-    say_number(b"", place(answer) as u64);
+pub(crate) fn say(rt: &impl Print, name: &str, answer: Answer) -> io::Result<()> {
+    let number = number(answer);
+    let place = place(answer);
+    println!(rt; "{name} {number} {place}")
 }
 
 pub(crate) fn case(
-    name: &[u8],
+    rt: &impl Print,
+    name: &str,
     setup: Setup,
     samples: &mut [f32],
     memories: Memories,
     store: &mut [f32],
     progress: [usize; PLACES],
     order: &[usize],
-) {
+) -> io::Result<()> {
     let outcome = run(setup, samples, memories, store, progress, order);
     let answer = outcome.answer;
-    say(name, answer);
+    say(rt, name, answer)
 }
 
 // A chain on its own, with no samples and no order, over a store of 64 floats.
-pub(crate) fn on_list(name: &[u8], rate: u32, slots: [Slot; PLACES], count: usize) {
+pub(crate) fn on_list(
+    rt: &impl Print,
+    name: &str,
+    rate: u32,
+    slots: [Slot; PLACES],
+    count: usize,
+) -> io::Result<()> {
     let mut samples = [0.0; 0];
     let mut store = [0.0; 64];
     let order = [0; 0];
     case(
+        rt,
         name,
         Setup { rate, count, slots },
         &mut samples,
@@ -80,20 +84,22 @@ pub(crate) fn on_list(name: &[u8], rate: u32, slots: [Slot; PLACES], count: usiz
         &mut store,
         [0; PLACES],
         &order,
-    );
+    )
 }
 
 // A block at 44,100 Hz, with a store of 64 floats and memories at zero.
 pub(crate) fn on_block(
-    name: &[u8],
+    rt: &impl Print,
+    name: &str,
     slots: [Slot; PLACES],
     count: usize,
     samples: &mut [f32],
     progress: [usize; PLACES],
     order: &[usize],
-) {
+) -> io::Result<()> {
     let mut store = [0.0; 64];
     case(
+        rt,
         name,
         Setup {
             rate: 44100,
@@ -105,5 +111,5 @@ pub(crate) fn on_block(
         &mut store,
         progress,
         order,
-    );
+    )
 }

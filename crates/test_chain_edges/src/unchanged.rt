@@ -6,18 +6,19 @@ use float::bits::to_bits_f32;
 use fresh_start::start::start;
 use memories::{PLACES, zero};
 use stage::setup::{Setup, empty, with};
+use std::io;
 
 // A chain of one delay.
 fn alone(rate: u32, frames: u32) -> Setup {
     with(empty(rate), delay(frames, 0))
 }
 
-fn say_bits(name: &[u8], x: f32) {
-    say_number(name, to_bits_f32(x) as u64);
+fn say_bits(rt: &impl Print, name: &str, x: f32) -> io::Result<()> {
+    say_number(rt, name, to_bits_f32(x) as u64)
 }
 
 // A delay of 2 frames over a block of one. Its line holds ones, and the samples are one half.
-fn on_delay(order: &[usize]) {
+fn on_delay(rt: &impl Print, order: &[usize]) -> io::Result<()> {
     let mut samples = [0.5; 2];
     let mut store = [1.0; 4];
     let outcome = run(
@@ -32,43 +33,43 @@ fn on_delay(order: &[usize]) {
     let progress = outcome.progress;
     let memories = outcome.memories;
     let positions = memories.positions;
-    say(b"answer", answer);
-    say_bits(b"sample", samples[0]);
-    say_bits(b"store", store[0]);
-    say_number(b"position", positions[0] as u64);
-    say_number(b"progress", progress[0] as u64);
+    say(rt, "answer", answer)?;
+    say_bits(rt, "sample", samples[0])?;
+    say_bits(rt, "store", store[0])?;
+    say_number(rt, "position", positions[0] as u64)?;
+    say_number(rt, "progress", progress[0] as u64)
 }
 
-pub(crate) fn refused_step() {
+pub(crate) fn refused_step(rt: &impl Print) -> io::Result<()> {
     let twice = [0, 0];
-    on_delay(&twice);
+    on_delay(rt, &twice)
 }
 
-pub(crate) fn taken_step() {
+pub(crate) fn taken_step(rt: &impl Print) -> io::Result<()> {
     let once = [0];
-    on_delay(&once);
+    on_delay(rt, &once)
 }
 
 // A fresh start of a delay of 1 frame, which needs 2 of the store's 3 floats.
-fn on_start(name: &[u8], rate: u32) {
+fn on_start(rt: &impl Print, name: &str, rate: u32) -> io::Result<()> {
     let mut store = [1.0; 3];
     let started = start(alone(rate, 1), &mut store);
     let answer = started.answer;
-    say(name, answer);
-    say_bits(b"last_needed", store[1]);
-    say_bits(b"past_needed", store[2]);
+    say(rt, name, answer)?;
+    say_bits(rt, "last_needed", store[1])?;
+    say_bits(rt, "past_needed", store[2])
 }
 
-pub(crate) fn cleared() {
-    on_start(b"start_8000", 8000);
+pub(crate) fn cleared(rt: &impl Print) -> io::Result<()> {
+    on_start(rt, "start_8000", 8000)
 }
 
-pub(crate) fn refused_start() {
-    on_start(b"start_7999", 7999);
+pub(crate) fn refused_start(rt: &impl Print) -> io::Result<()> {
+    on_start(rt, "start_7999", 7999)
 }
 
 // P12: a delay of 1 frame, feedback 0 dB, mix 1.
-pub(crate) fn rendered() {
+pub(crate) fn rendered(rt: &impl Print) -> io::Result<()> {
     let mut samples = [0.0; 6];
     samples[0] = 1.0;
     let mut store = [0.0; 2];
@@ -80,8 +81,8 @@ pub(crate) fn rendered() {
         [0; PLACES],
     );
     let answer = outcome.answer;
-    say(b"render", answer);
-    say_bits(b"left_0", samples[0]);
-    say_bits(b"left_1", samples[2]);
-    say_bits(b"left_2", samples[4]);
+    say(rt, "render", answer)?;
+    say_bits(rt, "left_0", samples[0])?;
+    say_bits(rt, "left_1", samples[2])?;
+    say_bits(rt, "left_2", samples[4])
 }

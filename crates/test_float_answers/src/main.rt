@@ -12,7 +12,7 @@ mod framed;
 mod frames;
 mod sample;
 
-use libc::STDOUT_FILENO;
+use std::io;
 
 #[derive(Clone, Copy)]
 enum Operation {
@@ -43,58 +43,48 @@ fn agrees(operation: Operation, i: usize) -> bool {
     }
 }
 
-fn say_difference(name: &[u8], i: usize) {
-    io::write_all(STDOUT_FILENO, name);
-    io::write_all(STDOUT_FILENO, b" differs at ");
-    io::print_decimal(STDOUT_FILENO, i as u64);
-    io::write_all(STDOUT_FILENO, b"\n");
+fn say_difference(rt: &impl Print, name: &str, i: usize) -> io::Result<()> {
+    println!(rt; "{name} differs at {i}")
 }
 
-fn say_agreed(name: &[u8], agreed: u64, count: u64) {
-    io::write_all(STDOUT_FILENO, name);
-    io::write_all(STDOUT_FILENO, b" ");
-    io::print_decimal(STDOUT_FILENO, agreed);
-    io::write_all(STDOUT_FILENO, b" of ");
-    io::print_decimal(STDOUT_FILENO, count);
-    io::write_all(STDOUT_FILENO, b"\n");
+fn say_agreed(rt: &impl Print, name: &str, agreed: u64, count: u64) -> io::Result<()> {
+    println!(rt; "{name} {agreed} of {count}")
 }
 
-fn try_all(name: &[u8], operation: Operation, count: usize) {
+fn try_all(rt: &impl Print, name: &str, operation: Operation, count: usize) -> io::Result<()> {
     let mut agreed: u64 = 0;
-    let mut i: usize = 0;
-    while i < count {
+    for i in 0..count {
         if agrees(operation, i) {
             agreed += 1;
         } else {
-            say_difference(name, i);
+            say_difference(rt, name, i)?;
         }
-        i += 1;
     }
-    say_agreed(name, agreed, count as u64);
+    say_agreed(rt, name, agreed, count as u64)
 }
 
-fn try_framed(name: &[u8], operation: framed::Operation) {
-    try_all(name, Operation::Framed { operation }, 14);
+fn try_framed(rt: &impl Print, name: &str, operation: framed::Operation) -> io::Result<()> {
+    try_all(rt, name, Operation::Framed { operation }, 14)
 }
 
-fn main() {
-    try_all(b"sqrt_f32", Operation::SqrtF32, 102);
-    try_all(b"sqrt_f64", Operation::SqrtF64, 102);
-    try_all(b"as_f32", Operation::AsF32, 102);
-    try_all(b"abs_f32", Operation::AbsF32, 22);
-    try_all(b"clamp_unit_f32", Operation::UnitF32, 22);
-    try_all(b"clamp_signed_unit_f32", Operation::SignedUnitF32, 22);
-    try_all(b"clamp_unit_f64", Operation::UnitF64, 24);
-    try_all(b"at_least_hundredth_f64", Operation::HundredthF64, 24);
-    try_all(b"coefficients", Operation::Equalized, 48);
-    try_framed(b"zero", framed::Operation::Zero);
-    try_framed(b"new", framed::Operation::New);
-    try_framed(b"from_mono", framed::Operation::FromMono);
-    try_framed(b"as_mono", framed::Operation::AsMono);
-    try_framed(b"add", framed::Operation::Add);
-    try_framed(b"sub", framed::Operation::Sub);
-    try_framed(b"mul", framed::Operation::Mul);
-    try_framed(b"div", framed::Operation::Div);
-    try_framed(b"neg", framed::Operation::Neg);
-    try_framed(b"panned", framed::Operation::Panned);
+fn main(rt: HostRuntime) -> io::Result<()> {
+    try_all(&rt, "sqrt_f32", Operation::SqrtF32, 102)?;
+    try_all(&rt, "sqrt_f64", Operation::SqrtF64, 102)?;
+    try_all(&rt, "as_f32", Operation::AsF32, 102)?;
+    try_all(&rt, "abs_f32", Operation::AbsF32, 22)?;
+    try_all(&rt, "clamp_unit_f32", Operation::UnitF32, 22)?;
+    try_all(&rt, "clamp_signed_unit_f32", Operation::SignedUnitF32, 22)?;
+    try_all(&rt, "clamp_unit_f64", Operation::UnitF64, 24)?;
+    try_all(&rt, "at_least_hundredth_f64", Operation::HundredthF64, 24)?;
+    try_all(&rt, "coefficients", Operation::Equalized, 48)?;
+    try_framed(&rt, "zero", framed::Operation::Zero)?;
+    try_framed(&rt, "new", framed::Operation::New)?;
+    try_framed(&rt, "from_mono", framed::Operation::FromMono)?;
+    try_framed(&rt, "as_mono", framed::Operation::AsMono)?;
+    try_framed(&rt, "add", framed::Operation::Add)?;
+    try_framed(&rt, "sub", framed::Operation::Sub)?;
+    try_framed(&rt, "mul", framed::Operation::Mul)?;
+    try_framed(&rt, "div", framed::Operation::Div)?;
+    try_framed(&rt, "neg", framed::Operation::Neg)?;
+    try_framed(&rt, "panned", framed::Operation::Panned)
 }

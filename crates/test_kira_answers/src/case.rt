@@ -10,8 +10,9 @@ use crate::call::call;
 use crate::put::{put_floats, put_numbers, put_words};
 use crate::same::is_same;
 use crate::units::{long, unit};
-use libc::STDIN_FILENO;
 use sedhavil::Room;
+use std::io;
+use std::io::Read;
 
 // All that a call may change, each with room for the longest slice of a case.
 #[derive(Clone, Copy)]
@@ -187,16 +188,16 @@ fn judge(head: &[u8], body: &[u8]) -> Judged {
     }
 }
 
-fn read_body(body: &mut [u8], n: usize)
+fn read_body(input: &mut impl Read, body: &mut [u8], n: usize) -> io::Result<()>
     requires { n ≤ length body.old }
 {
-    io::read_full(STDIN_FILENO, &mut body[..n]);
+    input.read_exact(&mut body[..n])
 }
 
-pub(crate) fn next_case() -> Judged {
+pub(crate) fn next_case(input: &mut impl Read) -> io::Result<Judged> {
     let mut head = [0; 56];
-    io::read_full(STDIN_FILENO, &mut head);
+    input.read_exact(&mut head)?;
     let mut body = [0; 131070];
-    read_body(&mut body, 2 * start(&head, 12));
-    judge(&head, &body)
+    read_body(input, &mut body, 2 * start(&head, 12))?;
+    Ok(judge(&head, &body))
 }

@@ -15,7 +15,8 @@ ghost use Rattle.std.specs.Prelude.{◌<◌};
 
 use crate::case::next_case;
 use crate::units::long;
-use libc::{STDIN_FILENO, STDOUT_FILENO};
+use std::io;
+use std::io::Read;
 
 // The calls so far: how many had each number as their answer, how many differ, and which was the first to
 // differ and the first to be the same.
@@ -27,10 +28,8 @@ struct Tally {
     first_same: u64,
 }
 
-fn say(name: &[u8], n: u64) {
-    io::write_all(STDOUT_FILENO, name);
-    io::print_decimal(STDOUT_FILENO, n);
-    io::write_all(STDOUT_FILENO, b"\n");
+fn say(rt: &impl Print, name: &str, n: u64) -> io::Result<()> {
+    println!(rt; "{name}{n}")
 }
 
 // One more; the largest count, which no list reaches, stays as it is.
@@ -83,61 +82,62 @@ fn counted(tally: Tally, i: u64, number: usize, is_same: bool) -> Tally {
     }
 }
 
-fn say_refusals(answers: &[u64]) {
-    let mut k = 1;
-    while k < answers.len() {
-        io::write_all(STDOUT_FILENO, b"refused ");
-        io::print_decimal(STDOUT_FILENO, number_at(k) as u64);
-        say(b": ", answers[k]);
-        k += 1;
+fn say_refusals(rt: &impl Print, answers: &[u64]) -> io::Result<()> {
+    for k in 1..answers.len() {
+        let number = number_at(k);
+        let count = answers[k];
+        println!(rt; "refused {number}: {count}")?;
     }
+    Ok(())
 }
 
-fn run_cases(cases: usize) -> Tally {
+fn run_cases(input: &mut impl Read, cases: usize) -> io::Result<Tally> {
     let mut tally = Tally {
         answers: [0; 14],
         differences: 0,
         first_other: cases as u64,
         first_same: cases as u64,
     };
-    let mut i = 0;
-    while i < cases {
-        let judged = next_case();
+    for i in 0..cases {
+        let judged = next_case(input)?;
         let after = counted(tally, i as u64, judged.number, judged.is_same);
         tally = after;
-        i += 1;
     }
-    tally
+    Ok(tally)
 }
 
-fn say_cases(cases: usize) {
-    let tally = run_cases(cases);
+fn say_cases(rt: &impl Print, input: &mut impl Read, cases: usize) -> io::Result<()> {
+    let tally = run_cases(input, cases)?;
     let answers = tally.answers;
-    say(b"cases: ", cases as u64);
-    say(b"accepted: ", answers[0]);
-    say_refusals(&answers);
-    say(b"differences: ", tally.differences);
+    say(rt, "cases: ", cases as u64)?;
+    say(rt, "accepted: ", answers[0])?;
+    say_refusals(rt, &answers)?;
+    say(rt, "differences: ", tally.differences)?;
     if tally.first_other < cases as u64 {
-        say(b"the first at ", tally.first_other);
+        say(rt, "the first at ", tally.first_other)?;
     }
+    Ok(())
 }
 
-fn say_spoilt(cases: usize) {
-    let tally = run_cases(cases);
-    say(b"spoilt: ", cases as u64);
-    say(b"differences: ", tally.differences);
+fn say_spoilt(rt: &impl Print, input: &mut impl Read, cases: usize) -> io::Result<()> {
+    let tally = run_cases(input, cases)?;
+    say(rt, "spoilt: ", cases as u64)?;
+    say(rt, "differences: ", tally.differences)?;
     if tally.first_same < cases as u64 {
-        say(b"none at ", tally.first_same);
+        say(rt, "none at ", tally.first_same)?;
     }
+    Ok(())
 }
 
-fn main() {
+fn main(rt: HostRuntime) -> io::Result<()> {
+    let mut input = rt.reader();
     let mut head = [0; 8];
-    io::read_full(STDIN_FILENO, &mut head);
+    input.read_exact(&mut head)?;
     say(
-        b"layout version: ",
+        &rt,
+        "layout version: ",
         sedhavil::sedhavil_layout_version() as u64,
-    );
-    say_cases(long(&head, 0));
-    say_spoilt(long(&head, 2));
+    )?;
+    say_cases(&rt, &mut input, long(&head, 0))?;
+    say_spoilt(&rt, &mut input, long(&head, 2))
 }

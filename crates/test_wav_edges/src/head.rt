@@ -4,6 +4,7 @@ ghost use Rattle.std.specs.Prelude.{◌<◌};
 
 use crate::say;
 use sedhavil_wav::sedhavil_wav_header;
+use std::io;
 
 // The header of document 01's whole case: RIFF, its size, WAVE, fmt, its size, tag and channels, rate,
 // byte rate, block and bits, data, its size.
@@ -49,27 +50,33 @@ fn byte(words: [u32; 11], i: usize) -> u8
 
 fn bytes_of(words: [u32; 11]) -> [u8; 44] {
     let mut bytes = [0; 44];
-    let mut i = 0;
-    while i < 44 {
+    for i in 0..44 {
         bytes[i] = byte(words, i);
-        i += 1;
     }
     bytes
 }
 
 // Writes the case's name and number, and the answer to the first n bytes of a header.
-fn say_cut(name: &[u8], k: usize, words: [u32; 11], n: usize, highest: u32) {
+fn say_cut(
+    rt: &impl Print,
+    name: &str,
+    k: usize,
+    words: [u32; 11],
+    n: usize,
+    highest: u32,
+) -> io::Result<()> {
     let bytes = bytes_of(words);
     if n <= 44 {
-        say::name(name);
-        say::next(k as u64);
-        say::answer(sedhavil_wav_header(&bytes[..n], highest));
+        say::name(rt, name)?;
+        say::next(rt, k as u64)?;
+        say::answer(rt, sedhavil_wav_header(&bytes[..n], highest))?;
     }
+    Ok(())
 }
 
 // The first k bytes of a good header; all of it at 44.
-pub(crate) fn cut(k: usize) {
-    say_cut(b"cut", k, GOOD, k, 192000);
+pub(crate) fn cut(rt: &impl Print, k: usize) -> io::Result<()> {
+    say_cut(rt, "cut", k, GOOD, k, 192000)
 }
 
 // A header with the faults 21 to 24 that the binary digits of k name, from the lowest.
@@ -93,32 +100,37 @@ fn faulty(k: usize) -> [u32; 11] {
 }
 
 // Every set of the five faults; the fifth is a header cut to 43 bytes.
-pub(crate) fn faults(k: usize) {
+pub(crate) fn faults(rt: &impl Print, k: usize) -> io::Result<()> {
     say_cut(
-        b"faults",
+        rt,
+        "faults",
         k,
         faulty(k),
         if k < 16 { 44 } else { 43 },
         192000,
-    );
+    )
 }
 
-pub(crate) fn wrong_word(k: usize) {
+pub(crate) fn wrong_word(rt: &impl Print, k: usize) -> io::Result<()> {
     if k < 15 {
-        say_cut(b"word", k, word(GOOD, PLACES[k], VALUES[k]), 44, 192000);
+        let words = word(GOOD, PLACES[k], VALUES[k]);
+        say_cut(rt, "word", k, words, 44, 192000)?;
     }
+    Ok(())
 }
 
-pub(crate) fn rate(name: &[u8], k: usize, highest: u32) {
+pub(crate) fn rate(rt: &impl Print, name: &str, k: usize, highest: u32) -> io::Result<()> {
     if k < 8 {
         let words = word(word(GOOD, 6, RATES[k]), 7, BYTE_RATES[k]);
-        say_cut(name, k, words, 44, highest);
+        say_cut(rt, name, k, words, 44, highest)?;
     }
+    Ok(())
 }
 
-pub(crate) fn size(k: usize) {
+pub(crate) fn size(rt: &impl Print, k: usize) -> io::Result<()> {
     if k < 9 {
         let words = word(word(GOOD, 10, SIZES[k]), 1, RIFF_SIZES[k]);
-        say_cut(b"size", k, words, 44, 192000);
+        say_cut(rt, "size", k, words, 44, 192000)?;
     }
+    Ok(())
 }

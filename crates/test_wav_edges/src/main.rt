@@ -7,6 +7,8 @@ mod data;
 mod head;
 mod say;
 
+use std::io;
+
 // The lists of cases that are run by number.
 #[derive(Clone, Copy)]
 enum Cases {
@@ -20,36 +22,35 @@ enum Cases {
     SamplesOut,
 }
 
-fn run_case(cases: Cases, k: usize) {
+fn run_case(rt: &impl Print, cases: Cases, k: usize) -> io::Result<()> {
     match cases {
-        Cases::Cuts => head::cut(k),
-        Cases::Faults => head::faults(k),
-        Cases::Words => head::wrong_word(k),
-        Cases::Rates => head::rate(b"rate", k, 192000),
-        Cases::RatesTo22050 => head::rate(b"rate_to_22050", k, 22050),
-        Cases::Sizes => head::size(k),
-        Cases::SamplesIn => data::sample_in(k),
-        Cases::SamplesOut => data::sample_out(k),
+        Cases::Cuts => head::cut(rt, k),
+        Cases::Faults => head::faults(rt, k),
+        Cases::Words => head::wrong_word(rt, k),
+        Cases::Rates => head::rate(rt, "rate", k, 192000),
+        Cases::RatesTo22050 => head::rate(rt, "rate_to_22050", k, 22050),
+        Cases::Sizes => head::size(rt, k),
+        Cases::SamplesIn => data::sample_in(rt, k),
+        Cases::SamplesOut => data::sample_out(rt, k),
     }
 }
 
-fn run_cases(cases: Cases, count: usize) {
-    let mut k = 0;
-    while k < count {
-        run_case(cases, k);
-        k += 1;
+fn run_cases(rt: &impl Print, cases: Cases, count: usize) -> io::Result<()> {
+    for k in 0..count {
+        run_case(rt, cases, k)?;
     }
+    Ok(())
 }
 
-fn main() {
-    run_cases(Cases::Cuts, 45);
-    run_cases(Cases::Faults, 32);
-    run_cases(Cases::Words, 15);
-    run_cases(Cases::Rates, 8);
-    run_cases(Cases::RatesTo22050, 8);
-    run_cases(Cases::Sizes, 9);
-    run_cases(Cases::SamplesIn, 8);
-    run_cases(Cases::SamplesOut, 26);
-    data::counts();
-    data::past();
+fn main(rt: HostRuntime) -> io::Result<()> {
+    run_cases(&rt, Cases::Cuts, 45)?;
+    run_cases(&rt, Cases::Faults, 32)?;
+    run_cases(&rt, Cases::Words, 15)?;
+    run_cases(&rt, Cases::Rates, 8)?;
+    run_cases(&rt, Cases::RatesTo22050, 8)?;
+    run_cases(&rt, Cases::Sizes, 9)?;
+    run_cases(&rt, Cases::SamplesIn, 8)?;
+    run_cases(&rt, Cases::SamplesOut, 26)?;
+    data::counts(&rt)?;
+    data::past(&rt)
 }

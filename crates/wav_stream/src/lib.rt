@@ -10,9 +10,9 @@ use answer::{is_accepted, number};
 use chain::render::render;
 use chain::run::Outcome;
 use fresh_start::start::start;
-use libc::{STDERR_FILENO, STDIN_FILENO, STDOUT_FILENO};
 use memories::{Memories, PLACES};
 use stage::setup::Setup;
+use std::io::Read;
 use wav_header::Header;
 use wav_samples::frames::{frames_in, frames_out};
 
@@ -24,9 +24,9 @@ struct Turn {
     more: bool,
 }
 
-fn say(number: u32) {
-    io::print_decimal(STDERR_FILENO, number as u64);
-    io::write_all(STDERR_FILENO, b"\n");
+// A number that cannot be written is left unsaid.
+fn say(rt: &impl Eprint, number: u32) {
+    let _ = eprintln!(rt; "{number}");
 }
 
 // How many of the bytes that are left the next block takes: 4,096 frames at most.
@@ -36,12 +36,28 @@ fn block_bytes(remaining: usize) -> usize
     if remaining < 16384 { remaining } else { 16384 }
 }
 
+// Reads until the bytes are full, the input ends or a read fails, and returns how many bytes came.
+fn read_full(rt: &impl Input, bytes: &mut [u8]) -> usize
+    ensures { result ≤ length bytes.old }
+{
+    let mut input = rt.reader();
+    let mut done = 0;
+    while done < bytes.len() {
+        let n = input.read(&mut bytes[done..]).unwrap_or(0);
+        if n == 0 {
+            break;
+        }
+        done += n;
+    }
+    done
+}
+
 // Reads `want` bytes, or as many as there are, and returns how many.
-fn read_block(bytes: &mut [u8], want: usize) -> usize
+fn read_block(rt: &impl Input, bytes: &mut [u8], want: usize) -> usize
     requires { want ≤ length bytes.old }
     ensures { result ≤ want }
 {
-    io::read_full(STDIN_FILENO, &mut bytes[..want])
+    read_full(rt, &mut bytes[..want])
 }
 
 fn render_block(
@@ -60,21 +76,28 @@ fn render_block(
 
 // Writes these frames, or the number of the refusal, and returns whether to go on. After the frames of a
 // block that was cut short it writes number 25.
-fn write_block(refused: u32, samples: &[f32], bytes: &mut [u8], frames: usize, is_cut: bool) -> bool
+fn write_block(
+    rt: &(impl Print + Eprint),
+    refused: u32,
+    samples: &[f32],
+    bytes: &mut [u8],
+    frames: usize,
+    is_cut: bool,
+) -> bool
     requires few_frames { frames ≤ 4096 }
     requires room { length bytes.old ≡ 16384 }
 {
     if refused > 0 {
-        say(refused);
+        say(rt, refused);
         return false;
     }
     frames_out(samples, bytes);
     let n = 4 * frames;
-    if !io::write_all(STDOUT_FILENO, &bytes[..n]) {
+    if rt.write_all(&bytes[..n]).is_err() {
         return false;
     }
     if is_cut {
-        say(wav_header::number(Header::Short));
+        say(rt, wav_header::number(Header::Short));
         return false;
     }
     true
@@ -83,6 +106,7 @@ fn write_block(refused: u32, samples: &[f32], bytes: &mut [u8], frames: usize, i
 // Reads, renders and writes one block of frames. It is the last if it is refused (which no sample from a
 // file can bring about), cannot be written or is cut short.
 fn block(
+    rt: &(impl Input + Print + Eprint),
     setup: Setup,
     memories: Memories,
     remaining: usize,
@@ -95,12 +119,12 @@ fn block(
     ensures { result.more ≡ true → result.remaining < remaining }
 {
     let want = block_bytes(remaining);
-    let got = read_block(bytes, want);
+    let got = read_block(rt, bytes, want);
     let frames = frames_in(&bytes[..got], samples);
     let outcome = render_block(setup, memories, samples, frames, store);
     let answer = outcome.answer;
     let kept = outcome.memories;
-    let more = write_block(number(answer), samples, bytes, frames, got < want);
+    let more = write_block(rt, number(answer), samples, bytes, frames, got < want);
     let rest = remaining - want;
     Turn {
         memories: kept,
@@ -111,6 +135,7 @@ fn block(
 
 // Runs blocks until all `size` bytes of data are through, or one was the last.
 fn blocks(
+    rt: &(impl Input + Print + Eprint),
     setup: Setup,
     memories: Memories,
     size: usize,
@@ -123,7 +148,7 @@ fn blocks(
     let mut held = memories;
     let mut remaining = size;
     while remaining > 0 {
-        let done = block(setup, held, remaining, bytes, samples, store);
+        let done = block(rt, setup, held, remaining, bytes, samples, store);
         if !done.more {
             return;
         }
@@ -134,20 +159,27 @@ fn blocks(
 }
 
 // After the header has been read: clears the lines, writes the header as it came, and runs the blocks.
-fn render_file(head: &[u8], size: u32, setup: Setup, store: &mut [f32]) {
+fn render_file(
+    rt: &(impl Input + Print + Eprint),
+    head: &[u8],
+    size: u32,
+    setup: Setup,
+    store: &mut [f32],
+) {
     let started = start(setup, store);
     let answer = started.answer;
     if !is_accepted(answer) {
-        say(number(answer));
+        say(rt, number(answer));
         return;
     }
-    if !io::write_all(STDOUT_FILENO, head) {
+    if rt.write_all(head).is_err() {
         return;
     }
     let memories = started.memories;
     let mut bytes = [0; 16384];
     let mut samples = [0.0; 8192];
     blocks(
+        rt,
         setup,
         memories,
         size as usize,
@@ -170,16 +202,16 @@ fn at_rate(setup: Setup, rate: u32) -> Setup {
 // Takes a whole WAV file from standard input to standard output through this chain, at the file's rate
 // instead of the setup's. The program takes rates up to `highest`. Of a file that is refused, or cut inside
 // its header, nothing is written but the number, on the error output.
-pub fn stream(setup: Setup, highest: u32, store: &mut [f32]) {
+pub fn stream(rt: &(impl Input + Print + Eprint), setup: Setup, highest: u32, store: &mut [f32]) {
     let mut head = [0; 44];
-    let n = io::read_full(STDIN_FILENO, &mut head);
+    let n = read_full(rt, &mut head);
     let header = wav_header::read(&head[..n], highest);
     match header {
-        Header::Read { rate, size } => render_file(&head, size, at_rate(setup, rate), store),
-        Header::Names => say(wav_header::number(header)),
-        Header::Format => say(wav_header::number(header)),
-        Header::Rate => say(wav_header::number(header)),
-        Header::Size => say(wav_header::number(header)),
-        Header::Short => say(wav_header::number(header)),
+        Header::Read { rate, size } => render_file(rt, &head, size, at_rate(setup, rate), store),
+        Header::Names => say(rt, wav_header::number(header)),
+        Header::Format => say(rt, wav_header::number(header)),
+        Header::Rate => say(rt, wav_header::number(header)),
+        Header::Size => say(rt, wav_header::number(header)),
+        Header::Short => say(rt, wav_header::number(header)),
     }
 }
