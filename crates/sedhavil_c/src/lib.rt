@@ -27,7 +27,9 @@ pub extern "C" fn sedhavil_run(
     ensures leaves { state samples.new store.new positions.new floats.new progress.new
         ≡ run_leaves rate stages.now (state samples.old store.old positions.old floats.old progress.old) order.now }
 {
-    sedhavil::sedhavil_run(rate, stages, samples, positions, floats, store, progress, order)
+    sedhavil::sedhavil_run(
+        rate, stages, samples, positions, floats, store, progress, order,
+    )
 }
 
 // Runs every stage to the last frame, from wherever the block stands.

@@ -8,7 +8,7 @@ use Rattle.top_stages.proofs.TopStages.{Written}
 use Rattle.top_stages.proofs.tops_of.Given as goal
 
 abbrev pub invariant-loop-i : goal.invariant-loop-i
-invariant-loop-i l = 
+invariant-loop-i l =
     (l.end ≡ used_of l.setup) × (l.i ≤ l.end) × (l.n ≤ l.i) × (l.n ≤ tops_of l.setup) × (l.i ≡ top_at l.setup l.n) × Written l.setup l.n l.places
 
 abbrev pub decreases-loop-i : goal.decreases-loop-i

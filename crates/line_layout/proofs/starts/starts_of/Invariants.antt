@@ -8,7 +8,7 @@ use Rattle.line_layout.specs.Layout.{start_of}
 use Rattle.line_layout.proofs.starts.starts_of.Given as goal
 
 abbrev pub invariant-loop-i : goal.invariant-loop-i
-invariant-loop-i l = 
+invariant-loop-i l =
     (l.i ≤ places) × (length l.starts ≡ places + 1) × ((k : ℕ) → k < l.i + 1 → get_or l.starts k 0 ≡ start_of l.setup k) × (start_of l.setup l.i ≤ l.i * (line_count * 0x1_0000_0000))
 
 abbrev pub decreases-loop-i : goal.decreases-loop-i

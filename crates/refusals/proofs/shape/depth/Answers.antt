@@ -24,6 +24,6 @@ loop-j-preserved c =
     let a = c.args in
     let more = depth_more a.setup a.i c.loop-j.j c.is_owner.ensures in
     elim c.if-is_owner.branch [
-      then-is_owner w ↦ (omega arith, omega arith, omega (arith, rw w.if-is_owner.true at more))
-    | else-is_owner w ↦ (omega arith, omega arith, omega (arith, rw w.if-is_owner.false at more))
+      | then-is_owner w ↦ (omega arith, omega arith, omega (arith, rw w.if-is_owner.true at more))
+      | else-is_owner w ↦ (omega arith, omega arith, omega (arith, rw w.if-is_owner.false at more))
     ]
