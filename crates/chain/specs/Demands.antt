@@ -1,6 +1,7 @@
 -- Demands 2 and 3 of the user, sentence by sentence, about what `run` and `render` answer and leave. Crate
 -- theory_demands has a theorem for each. Definitions only.
-use Rattle.std.specs.Prelude.{◌≡◌, ◌≢◌, true, List, [], ◌∷◌, ◌++◌, ℕ, suc, ◌*◌, ◌≤◌, ◌<◌, Float, length, take, drop, replicate}
+use Rattle.std.specs.Prelude.{◌≡◌, ◌≢◌, true, ℕ, suc, ◌*◌, ◌≤◌, ◌<◌, Float}
+use Rattle.std.specs.Prelude.{List, [], ◌∷◌, ◌++◌, length, take, drop, replicate}
 use Rattle.line.specs.Held.{Held}
 use Rattle.theory_order.specs.Stretch.{part}
 use Rattle.theory_order.specs.Order.{count}
@@ -141,8 +142,8 @@ AnyOrder = (setup : Setup) (s : State Float Held) (xs ys : List ℕ) → Arrays 
     → ((k : ℕ) → k < tops_of setup → count k xs ≡ count k ys) → leaves_of setup s xs ≡ leaves_of setup s ys
 
 -- the order leaves "what demand 2's rendering, whole frame after whole frame, leaves". That rendering has two
--- definitions: the order `frames`, which is accepted too, and `frame_by_frame`, which knows no orders and takes one frame
--- through all stages, then the next. The latter has no progress, so samples, lines and memories are compared
+-- definitions: the order `frames`, which is accepted too, and `frame_by_frame`, which knows no orders and takes one
+-- frame through all stages, then the next. The latter has no progress, so samples, lines and memories are compared
 pub record FrameAfterFrame (setup : Setup) (s : State Float Held) (order : List ℕ) : Type 0 where
   pub taken : Taken setup s (frames (tops_of setup) (frames_of s.samples))
   pub same : leaves_of setup s order ≡ leaves_of setup s (frames (tops_of setup) (frames_of s.samples))

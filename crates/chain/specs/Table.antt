@@ -49,7 +49,8 @@ plus_zero = of_bits binary32 0
 pub record StartTabled (setup : Setup) (store : List Float) : Type 0 where
   pub answer : ByTheTable number_of place_of (chain_rows setup (needed_of setup) (length store)) Accepted
       (chain_answer setup (needed_of setup) (length store))
-  pub unchanged : accepted_of (chain_answer setup (needed_of setup) (length store)) ≡ false → started_of setup store ≡ store
+  pub unchanged :
+      accepted_of (chain_answer setup (needed_of setup) (length store)) ≡ false → started_of setup store ≡ store
   pub cleared : accepted_of (chain_answer setup (needed_of setup) (length store)) ≡ true
       → started_of setup store ≡ replicate (needed_of setup) plus_zero ++ drop (needed_of setup) store
   pub all_used : accepted_of (chain_answer setup (needed_of setup) (length store)) ≡ true → used_of setup ≡ setup.count

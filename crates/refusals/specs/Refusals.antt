@@ -91,7 +91,8 @@ chain_answer setup needed floats = first_row (chain_rows setup needed floats) Ac
 -- the answer by rows 6 to 9
 unfoldable pub state_answer : Setup → ℕ → List ℕ → ℕ → List ℕ → Answer
 unfolding first_row
-state_answer setup tops positions samples progress = first_row (state_rows setup tops positions samples progress) Accepted
+state_answer setup tops positions samples progress =
+    first_row (state_rows setup tops positions samples progress) Accepted
 
 -- the answer by row 10
 unfoldable pub sample_answer : ℕ → List Float → List ℕ → Answer

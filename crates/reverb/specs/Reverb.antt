@@ -9,7 +9,8 @@ use Rattle.frame.specs.Mix.{mix_of}
 use Rattle.line.specs.Held.{Held, holds, front, back, joined, Ran, ran}
 use Rattle.line.specs.Comb.{combed_of, comb_line_of}
 use Rattle.line.specs.AllPass.{passed_of, pass_line_of}
-use Rattle.reverb_tuning.specs.Tuning.{side_combs, side_lines, comb_count, line_count, reverb_lines, total, reverb_floats}
+use Rattle.reverb_tuning.specs.Tuning.{side_combs, side_lines, comb_count, line_count}
+use Rattle.reverb_tuning.specs.Tuning.{reverb_lines, total, reverb_floats}
 
 -- a float and the three stretches: what one line gives and leaves, or several in turn
 pub record Heard : Type 0 where

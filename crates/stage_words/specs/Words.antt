@@ -1,6 +1,7 @@
 -- How a chain is read from words of 64 bits: a stage is twelve words, its kind and then its numbers, and words that it
 -- does not use are 0. Definitions only.
-use Rattle.std.specs.Prelude.{Bool, false, ◌&&◌, ◌||◌, cond, List, ℕ, zero, suc, ◌+◌, ◌*◌, ◌-◌, ◌/◌, ◌^◌, ltb, leb, eqb, ℤ, pos, negsuc, Float, length, get_or}
+use Rattle.std.specs.Prelude.{Bool, false, ◌&&◌, ◌||◌, cond, ltb, leb, eqb, List, length, get_or, Float}
+use Rattle.std.specs.Prelude.{ℕ, zero, suc, ◌+◌, ◌*◌, ◌-◌, ◌/◌, ◌^◌, ℤ, pos, negsuc}
 use Rattle.std.specs.Float.{binary32, binary64}
 use Rattle.std.specs.Float.Ieee.{of_bits}
 use Rattle.theory_tables.specs.Condition.{Condition, fails}

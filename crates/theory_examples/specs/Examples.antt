@@ -96,7 +96,8 @@ comb_then x s = (
 -- the bits of the samples that `render` leaves, with memories, progress and a store of so many floats at zero
 abbrev pub rendered : Setup → ℕ → List Float → List ℕ
 rendered setup floats samples =
-    let block = state samples (replicate floats (number 0)) (replicate all_positions 0) (replicate all_floats (number 0))
+    let block =
+    state samples (replicate floats (number 0)) (replicate all_positions 0) (replicate all_floats (number 0))
     (replicate places 0) in
     map bits (rendered_of setup block).samples
 
@@ -106,7 +107,8 @@ rendered setup floats samples =
 abbrev pub told : List ℕ → List ℕ
 told order =
     let volumes = with_stage (with_stage (empty_setup 44100) (VolumeControl (pos 0))) (VolumeControl (pos 0)) in
-    let answer = answer_of volumes 0 (number 0 ∷ number 0 ∷ []) (replicate all_positions 0) (replicate places 0) order in
+    let answer =
+    answer_of volumes 0 (number 0 ∷ number 0 ∷ []) (replicate all_positions 0) (replicate places 0) order in
     number_of answer ∷ place_of answer ∷ []
 
 -- ---- the list

@@ -107,7 +107,8 @@ read_of bytes = Read (four_at bytes plain.rate) (four_at bytes plain.size)
 unfoldable pub header_of : List ℕ → ℕ → Header
 header_of bytes highest = first_row (header_rows bytes highest) (read_of bytes)
 
--- `header_of` in plain logic: it gives the first row that applies and no other, and `read_of` exactly where none applies
+-- `header_of` in plain logic: it gives the first row that applies and no other, and `read_of` exactly where none
+-- applies
 abbrev pub HeaderTabled : Type 0
 HeaderTabled =
     (bytes : List ℕ) (highest : ℕ)
