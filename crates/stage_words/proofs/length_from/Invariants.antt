@@ -7,7 +7,6 @@ use borrow.Author.Tests.{eq-eqb, ne_eqb}
 use Rattle.stage_words.specs.Words.{word_count, word_at, length_from}
 use Rattle.stage_words.proofs.length_from.Given as goal
 
--- The words from n on are 0, so that the length is that of the first n. The measure is n. Assumes nothing.
 module _ (words : List ℕ) (at : ℕ) where
   length_none : length_from words at 0 ≡ 0
   unfolding length_from

@@ -9,7 +9,6 @@ use Rattle.stage.specs.declared.setup.Slot.{Slot}
 use Rattle.stage_words.specs.Words.{stage_words, stage_of, setup_of}
 use Rattle.stage_words.proofs.setup_of.Given as goal
 
--- The loop's invariant: the places passed hold the stages of their words. The measure is the places left. Assumes nothing.
 abbrev slot_of : List ℕ → ℕ → Slot
 slot_of words i = record { stage = stage_of (stage_words words i) }
 

@@ -1,4 +1,4 @@
--- `lines::reverb_lost` meets its contract: it has looked at the lines below j. The measure is lineCount - j. Assumes nothing.
+-- `lines::reverb_lost` meets its contract: it has looked at the lines below j. The measure is line_count - j. Assumes nothing.
 use mathlib.Core.Bool.{Bool}
 use mathlib.Core.List.{List}
 use Prim.Native.Nat.{ℕ, ◌-◌}
@@ -8,7 +8,6 @@ use Rattle.reverb_tuning.specs.Tuning.{line_count, reverb_lines}
 use Rattle.theory_tables.proofs.Firsts.{Looked}
 use Rattle.line_layout.proofs.lines.reverb_lost.Given as goal
 
--- `lines::reverb_lost` meets its contract: it has looked at the lines below j. The measure is lineCount - j. Assumes nothing.
 -- position j is not on line j
 abbrev off : List ℕ → List ℕ → ℕ → Bool
 off lines positions j = leb (get_or lines j 0) (get_or positions j 0)
