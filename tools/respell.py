@@ -137,6 +137,8 @@ def main(argv):
     only_list = "--list" in argv
     rest = [a for a in argv if a != "--list"]
     root = rest[0] if rest else "."
+    if os.path.exists(os.path.join(root, "docs", "PORT.md")):
+        sys.exit("respell: docs/PORT.md is there, so the names of this tree are turned already")
     names, theirs, own = table(root)
     if only_list:
         for old, new in names.items():
