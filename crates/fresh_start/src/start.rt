@@ -23,11 +23,7 @@ fn clear(store: &mut [f32], n: usize)
     requires { n ≤ length store.old }
     ensures { store.new ≡ cleared_to n store.old }
 {
-    let mut i = 0;
-    while i < n {
-        store[i] = 0.0;
-        i += 1;
-    }
+    store[..n].fill(0.0);
 }
 
 // Makes checks 1 to 5 and, where none refuses, sets the floats that the chain needs to +0. Floats past
