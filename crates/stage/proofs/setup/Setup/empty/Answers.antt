@@ -1,7 +1,7 @@
--- `setup::empty` meets its contract: it is the definition. Assumes nothing.
+-- `Setup::empty` meets its contract: it is the definition. Assumes nothing.
 use mathlib.Core.Path.{refl}
 use Rattle.stage.specs.Setup.{empty_setup}
-use Rattle.stage.proofs.setup.empty.Goals as goal
+use Rattle.stage.proofs.setup.Setup.empty.Goals as goal
 
 pub returns : goal.returns
 unfolding empty_setup

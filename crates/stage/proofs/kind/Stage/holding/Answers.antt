@@ -1,7 +1,7 @@
--- `kind::holding_of` meets its contract: a reverb and a delay are known, and no other kind holds anything. Assumes nothing.
+-- `Stage::holding` meets its contract: a reverb and a delay are known, and no other kind holds anything. Assumes nothing.
 use Rattle.stage.specs.Holding.{holding_of}
 use Rattle.stage.proofs.Unnamed.{holds_none}
-use Rattle.stage.proofs.kind.holding_of.Goals as goal
+use Rattle.stage.proofs.kind.Stage.holding.Goals as goal
 
 pub returns-in-Reverb : goal.returns-in-Reverb
 unfolding holding_of
@@ -12,4 +12,4 @@ unfolding holding_of
 returns-in-Delay c = rw c.in-Delay.is
 
 pub returns-in_default : goal.returns-in_default
-returns-in_default c = holds_none c.args.stage c.in_default.not-Reverb c.in_default.not-Delay
+returns-in_default c = holds_none c.args.self c.in_default.not-Reverb c.in_default.not-Delay
