@@ -21,7 +21,7 @@ pub enum EqFilterKind {
 }
 
 // kira's `Coefficients`: a1, a2 and a3 weigh the step, m0, m1 and m2 weigh the frame, v1 and v2.
-#[derive(Clone, Copy)]
+#[derive(Clone, Copy, Debug, PartialEq)]
 pub struct Coefficients {
     pub a1: f64,
     pub a2: f64,

@@ -38,7 +38,7 @@ pub struct Filtered {
 }
 
 // kira's a1, a2 and a3, in f64 as the Rust works them out, or in f32 as it uses them.
-#[derive(Clone, Copy)]
+#[derive(Clone, Copy, Debug, PartialEq)]
 pub struct Weights<T> {
     pub a1: T,
     pub a2: T,
