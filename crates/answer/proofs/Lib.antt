@@ -1,1 +1,2 @@
+pub mod Accepts
 pub mod OneOutcome

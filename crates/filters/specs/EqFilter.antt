@@ -77,7 +77,7 @@ unfoldable pub eq_of : EqFilterKind → Float → Float → ℤ → Integrators 
 unfolding coefficients_of narrowed_of
 eq_of kind g q gain memory frame =
     let c = coefficients_of kind g q gain in
-    let s = narrowed_of memory frame c.a1 c.a2 c.a3 in
+    let s = narrowed_of memory frame (record { a1 = c.a1; a2 = c.a2; a3 = c.a3 }) in
     let p = s.parts in
     record {
       output =

@@ -33,6 +33,5 @@ unfoldable pub filter_of : FilterMode → Float → Float → Float → Integrat
 unfolding damping_of output_of weights_of narrowed_of
 filter_of mode g resonance mix memory frame =
     let k = damping_of resonance in
-    let a = weights_of g k in
-    let s = narrowed_of memory frame a.a1 a.a2 a.a3 in
+    let s = narrowed_of memory frame (weights_of g k) in
     record { output = mix_of (output_of mode frame s.parts (narrow_of binary32 k)) frame mix; after = s.after }

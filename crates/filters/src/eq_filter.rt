@@ -7,13 +7,13 @@ use crate::narrowed::run_narrowed;
 use decibels::eq_amplitude;
 use float::clamp::at_least_hundredth_f64;
 use frame::Frame;
-use integrators::{Filtered, Integrators, weigh};
+use integrators::{Filtered, Integrators, Parts, Stepped, Weights, weigh};
 use rounding::narrow::as_f32;
 use rounding::sqrt::sqrt_f64;
 
 // kira's `EqFilterKind`: the gain applies around a frequency (bell), around and below it (low shelf) or
 // around and above it (high shelf).
-#[derive(Clone, Copy)]
+#[derive(Clone, Copy, Debug, PartialEq, Eq)]
 pub enum EqFilterKind {
     Bell,
     LowShelf,
@@ -21,7 +21,7 @@ pub enum EqFilterKind {
 }
 
 // kira's `Coefficients`: a1, a2 and a3 weigh the step, m0, m1 and m2 weigh the frame, v1 and v2.
-#[derive(Clone, Copy)]
+#[derive(Clone, Copy, Debug, PartialEq)]
 pub struct Coefficients {
     pub a1: f64,
     pub a2: f64,
@@ -35,11 +35,11 @@ fn bell(g: f64, q: f64, a: f64) -> Coefficients
     ensures { result ≡ bell_of g q a }
 {
     let k = 1.0 / (q * a);
-    let w = weigh(g, k);
+    let Weights { a1, a2, a3 } = weigh(g, k);
     Coefficients {
-        a1: w.a1,
-        a2: w.a2,
-        a3: w.a3,
+        a1,
+        a2,
+        a3,
         m0: 1.0,
         m1: k * (a * a - 1.0),
         m2: 0.0,
@@ -50,11 +50,11 @@ fn low_shelf(g: f64, q: f64, a: f64) -> Coefficients
     ensures { result ≡ low_shelf_of g q a }
 {
     let k = 1.0 / q;
-    let w = weigh(g / sqrt_f64(a), k);
+    let Weights { a1, a2, a3 } = weigh(g / sqrt_f64(a), k);
     Coefficients {
-        a1: w.a1,
-        a2: w.a2,
-        a3: w.a3,
+        a1,
+        a2,
+        a3,
         m0: 1.0,
         m1: k * (a - 1.0),
         m2: a * a - 1.0,
@@ -65,11 +65,11 @@ fn high_shelf(g: f64, q: f64, a: f64) -> Coefficients
     ensures { result ≡ high_shelf_of g q a }
 {
     let k = 1.0 / q;
-    let w = weigh(g * sqrt_f64(a), k);
+    let Weights { a1, a2, a3 } = weigh(g * sqrt_f64(a), k);
     Coefficients {
-        a1: w.a1,
-        a2: w.a2,
-        a3: w.a3,
+        a1,
+        a2,
+        a3,
         m0: a * a,
         m1: k * (1.0 - a) * a,
         m2: 1.0 - a * a,
@@ -106,11 +106,15 @@ pub fn process(
     ensures { result ≡ eq_of kind g q gain memory input }
 {
     let c = Coefficients::calculate(kind, g, q, gain);
-    let stepped = run_narrowed(memory, input, c.a1, c.a2, c.a3);
-    let parts = stepped.parts;
-    let after = stepped.after;
-    let v1 = parts.v1;
-    let v2 = parts.v2;
+    let weights = Weights {
+        a1: c.a1,
+        a2: c.a2,
+        a3: c.a3,
+    };
+    let Stepped {
+        parts: Parts { v1, v2 },
+        after,
+    } = run_narrowed(memory, input, weights);
     let dry = input.mul(as_f32(c.m0));
     let output = dry.add(v1.mul(as_f32(c.m1))).add(v2.mul(as_f32(c.m2)));
     Filtered { output, after }

@@ -6,12 +6,12 @@ ghost use Rattle.filters.specs.Filter.{output_of, filter_of};
 use crate::narrowed::run_narrowed;
 use float::clamp::clamp_unit_f64;
 use frame::Frame;
-use integrators::{Filtered, Integrators, Parts, weigh};
+use integrators::{Filtered, Integrators, Parts, Stepped, weigh};
 use rounding::narrow::as_f32;
 
 // kira's `FilterMode`: removes what is above the cutoff (low-pass), above and below it (band-pass),
 // below it (high-pass) or around it (notch).
-#[derive(Clone, Copy)]
+#[derive(Clone, Copy, Debug, PartialEq, Eq)]
 pub enum FilterMode {
     LowPass,
     BandPass,
@@ -23,8 +23,7 @@ pub enum FilterMode {
 fn output(mode: FilterMode, input: Frame, parts: Parts, k: f32) -> Frame
     ensures { result ≡ output_of mode input parts k }
 {
-    let v1 = parts.v1;
-    let v2 = parts.v2;
+    let Parts { v1, v2 } = parts;
     match mode {
         FilterMode::LowPass => v2,
         FilterMode::BandPass => v1,
@@ -46,10 +45,7 @@ pub fn process(
     ensures { result ≡ filter_of mode g resonance mix memory input }
 {
     let k = 2.0 - 1.9 * clamp_unit_f64(resonance);
-    let a = weigh(g, k);
-    let stepped = run_narrowed(memory, input, a.a1, a.a2, a.a3);
-    let parts = stepped.parts;
-    let after = stepped.after;
+    let Stepped { parts, after } = run_narrowed(memory, input, weigh(g, k));
     let wet = output(mode, input, parts, as_f32(k));
     Filtered {
         output: wet.mixed(input, mix),

@@ -4,13 +4,16 @@ ghost use Rattle.std.specs.Prelude.{◌≡◌};
 ghost use Rattle.filters.specs.Narrowed.{narrowed_of};
 
 use frame::Frame;
-use integrators::{Integrators, Stepped, run};
+use integrators::{Integrators, Stepped, Weights, run};
 use rounding::narrow::as_f32;
 
-pub(crate) fn run_narrowed(memory: Integrators, input: Frame, a1: f64, a2: f64, a3: f64) -> Stepped
-    ensures { result ≡ narrowed_of memory input a1 a2 a3 }
+pub(crate) fn run_narrowed(memory: Integrators, input: Frame, weights: Weights<f64>) -> Stepped
+    ensures { result ≡ narrowed_of memory input weights }
 {
-    let ic1eq = memory.ic1eq;
-    let ic2eq = memory.ic2eq;
-    run(ic1eq, ic2eq, input, as_f32(a1), as_f32(a2), as_f32(a3))
+    let narrowed = Weights {
+        a1: as_f32(weights.a1),
+        a2: as_f32(weights.a2),
+        a3: as_f32(weights.a3),
+    };
+    run(memory, input, narrowed)
 }

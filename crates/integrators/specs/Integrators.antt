@@ -11,7 +11,7 @@ use Rattle.integrators.specs.declared.Stepped.{Stepped}
 use Rattle.integrators.specs.declared.Weights.{Weights}
 
 -- `a1 = 1.0 / (1.0 + g * (g + k))`, `a2 = g * a1`, `a3 = g * a2`, all in f64
-unfoldable pub weights_of : Float → Float → Weights
+unfoldable pub weights_of : Float → Float → Weights Float
 weights_of g k =
     let a1 =
     div binary64 (literal binary64 1 1) (add binary64 (literal binary64 1 1) (mul binary64 g (add binary64 g k))) in
@@ -20,8 +20,11 @@ weights_of g k =
     record { a1 = a1; a2 = a2; a3 = a3 }
 
 -- v1 and v2, and the two frames remembered after the step; a1, a2 and a3 have been narrowed to f32
-unfoldable pub stepped_of : Integrators → Frame → Float → Float → Float → Stepped
-stepped_of memory frame a1 a2 a3 =
+unfoldable pub stepped_of : Integrators → Frame → Weights Float → Stepped
+stepped_of memory frame weights =
+    let a1 = weights.a1 in
+    let a2 = weights.a2 in
+    let a3 = weights.a3 in
     let ic1eq = memory.ic1eq in
     let ic2eq = memory.ic2eq in
     let v3 = sub_of frame ic2eq in

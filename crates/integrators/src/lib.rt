@@ -1,7 +1,7 @@
 // What kira's `filter.rs` and `eq_filter.rs` share: the two frames that each remembers, the weights
 // that g and k give, and the part of a step that renews the two frames. The two frames form one small
 // record. `step` takes and gives it by value; `step_in_place` changes it in place, by calling `step`;
-// `run`, which the filter and the EQ call, makes the record of two frames and lends it.
+// `run`, which the filter and the EQ call, takes it by value and lends it on.
 #![tactic(auto)]
 
 ghost use Rattle.std.specs.Prelude.{◌≡◌};
@@ -37,17 +37,17 @@ pub struct Filtered {
     pub after: Integrators,
 }
 
-// kira's a1, a2 and a3, in f64 as the Rust works them out.
-#[derive(Clone, Copy)]
-pub struct Weights {
-    pub a1: f64,
-    pub a2: f64,
-    pub a3: f64,
+// kira's a1, a2 and a3, in f64 as the Rust works them out, or in f32 as it uses them.
+#[derive(Clone, Copy, Debug, PartialEq)]
+pub struct Weights<T> {
+    pub a1: T,
+    pub a2: T,
+    pub a3: T,
 }
 
 // kira's a1, a2 and a3 out of g, the tangent, and k: a1 = 1 / (1 + g * (g + k)), a2 = g * a1 and
 // a3 = g * a2.
-pub fn weigh(g: f64, k: f64) -> Weights
+pub fn weigh(g: f64, k: f64) -> Weights<f64>
     ensures { result ≡ weights_of g k }
 {
     let a1 = 1.0 / (1.0 + g * (g + k));
@@ -56,11 +56,11 @@ pub fn weigh(g: f64, k: f64) -> Weights
     Weights { a1, a2, a3 }
 }
 
-fn step(memory: Integrators, input: Frame, a1: f32, a2: f32, a3: f32) -> Stepped
-    ensures { result ≡ stepped_of memory input a1 a2 a3 }
+fn step(memory: Integrators, input: Frame, weights: Weights<f32>) -> Stepped
+    ensures { result ≡ stepped_of memory input weights }
 {
-    let ic1eq = memory.ic1eq;
-    let ic2eq = memory.ic2eq;
+    let Integrators { ic1eq, ic2eq } = memory;
+    let Weights { a1, a2, a3 } = weights;
     let v3 = input.sub(ic2eq);
     let v1 = ic1eq.mul(a1).add(v3.mul(a2));
     let v2 = ic2eq.add(ic1eq.mul(a2)).add(v3.mul(a3));
@@ -73,29 +73,20 @@ fn step(memory: Integrators, input: Frame, a1: f32, a2: f32, a3: f32) -> Stepped
     }
 }
 
-pub(crate) fn step_in_place(
-    memory: &mut Integrators,
-    input: Frame,
-    a1: f32,
-    a2: f32,
-    a3: f32,
-) -> Parts
-    ensures { (result ≡ (stepped_of memory.old input a1 a2 a3).parts) × (memory.new ≡ (stepped_of memory.old input a1 a2 a3).after) }
+pub(crate) fn step_in_place(memory: &mut Integrators, input: Frame, weights: Weights<f32>) -> Parts
+    ensures { (result ≡ (stepped_of memory.old input weights).parts) × (memory.new ≡ (stepped_of memory.old input weights).after) }
 {
-    let stepped = step(*memory, input, a1, a2, a3);
-    *memory = stepped.after;
-    stepped.parts
+    let Stepped { parts, after } = step(*memory, input, weights);
+    *memory = after;
+    parts
 }
 
-// One step: what v1 and v2 are for this input, and the two frames remembered after it. a1, a2 and a3
+// One step: what v1 and v2 are for this input, and the two frames remembered after it. The weights
 // have been narrowed to f32.
-pub fn run(ic1eq: Frame, ic2eq: Frame, input: Frame, a1: f32, a2: f32, a3: f32) -> Stepped
-    ensures { result ≡ stepped_of (record { ic1eq = ic1eq; ic2eq = ic2eq }) input a1 a2 a3 }
+pub fn run(memory: Integrators, input: Frame, weights: Weights<f32>) -> Stepped
+    ensures { result ≡ stepped_of memory input weights }
 {
-    let mut memory = Integrators { ic1eq, ic2eq };
-    let parts = step_in_place(&mut memory, input, a1, a2, a3);
-    Stepped {
-        parts,
-        after: memory,
-    }
+    let mut after = memory;
+    let parts = step_in_place(&mut after, input, weights);
+    Stepped { parts, after }
 }

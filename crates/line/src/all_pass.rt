@@ -7,7 +7,7 @@ use crate::floats::{float_at, put_float};
 use crate::position::next_position;
 
 // What an all-pass gives: its output, and the line's next position.
-#[derive(Clone, Copy)]
+#[derive(Clone, Copy, Debug, PartialEq)]
 pub struct Passed {
     pub output: f32,
     pub at: usize,

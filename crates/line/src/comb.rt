@@ -7,7 +7,7 @@ use crate::floats::{float_at, put_float};
 use crate::position::next_position;
 
 // What a comb gives: its output, the line's next position, and the float that it remembers.
-#[derive(Clone, Copy)]
+#[derive(Clone, Copy, Debug, PartialEq)]
 pub struct Combed {
     pub output: f32,
     pub at: usize,

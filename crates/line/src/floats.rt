@@ -6,13 +6,11 @@ ghost use Rattle.std.specs.Float.{nan};
 pub(crate) fn float_at(line: &[f32], place: usize) -> f32
     ensures { result ≡ get_or line.now place nan }
 {
-    if place < line.len() {
-        return line[place];
-    }
-    0.0 / 0.0
+    line.get(place).copied().unwrap_or(f32::NAN)
 }
 
-// Stores a float at a place; past the line's end nothing is stored.
+// Stores a float at a place; past the line's end nothing is stored. (A slice's `get_mut` promises
+// nothing of what the slice ends as.)
 pub(crate) fn put_float(line: &mut [f32], place: usize, x: f32)
     ensures { line.new ≡ set line.old place x }
 {

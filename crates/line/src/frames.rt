@@ -11,15 +11,12 @@ pub fn frame_at(line: &[f32], at: usize) -> Frame
     ensures { result ≡ frame_at at line.now }
 {
     if at < line.len() {
-        let place = 2 * at;
-        return Frame {
-            left: float_at(line, place),
-            right: float_at(line, place + 1),
-        };
-    }
-    Frame {
-        left: 0.0 / 0.0,
-        right: 0.0 / 0.0,
+        Frame {
+            left: float_at(line, 2 * at),
+            right: float_at(line, 2 * at + 1),
+        }
+    } else {
+        Frame::from_mono(f32::NAN)
     }
 }
 
@@ -28,8 +25,7 @@ pub fn put_frame(line: &mut [f32], at: usize, x: Frame)
     ensures { line.new ≡ frame_in at x line.old }
 {
     if at < line.len() {
-        let place = 2 * at;
-        put_float(line, place, x.left);
-        put_float(line, place + 1, x.right);
+        put_float(line, 2 * at, x.left);
+        put_float(line, 2 * at + 1, x.right);
     }
 }

@@ -6,10 +6,8 @@ ghost use Rattle.line.specs.Position.{next_position};
 pub fn next_position(at: usize, length: usize) -> usize
     ensures { result ≡ next_position at length }
 {
-    if at < length {
-        if at + 1 < length {
-            return at + 1;
-        }
+    match at.checked_add(1) {
+        Some(next) if next < length => next,
+        _ => 0,
     }
-    0
 }

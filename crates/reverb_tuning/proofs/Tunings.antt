@@ -1,37 +1,28 @@
 -- A reverb's lines by their index: how long each is, what those from an index on have together, and how much all can be. Assumes nothing.
-use mathlib.Core.Path.{◌≡◌, refl, ap, ◌∙◌}
+use mathlib.Core.Path.{◌≡◌, refl, sym, ap, ◌∙◌}
 use mathlib.Core.List.{List, [], ◌∷◌, map}
-use Prim.Native.Nat.{ℕ, zero, suc, ◌+◌, ◌*◌, ◌≤◌, ◌<◌}
+use Prim.Native.Nat.{ℕ, zero, suc, ◌+◌, ◌-◌, ◌*◌, ◌≤◌, ◌<◌}
 use native.Mathlib.Nat.{mul-le-mul_right}
 use native.Mathlib.Numerals.{add-one}
 use native.Mathlib.Omega.{arith}
-use lib.ListN.{length, get_or, take, drop, get_or-append}
+use lib.ListN.{length, get_or, drop, get_or-append, drop_of_length-le}
 use lib.Seq.{drop-cons, get_or-append-add}
-use Rattle.reverb_tuning.specs.Tuning.{line_count, tunings, reverb_tunings, length_of, reverb_lines, total, reverb_floats}
+use Rattle.std.specs.List.{All, sum, range_with_len}
+use Rattle.std.proofs.lemmas.List.Elements.{All-from_get_or}
+use Rattle.std.proofs.lemmas.List.Sums.{sum_by-le, get_or-le-sum_by}
+use Rattle.reverb_tuning.specs.Tuning.{line_count, tunings, reverb_tunings, length_of, reverb_lines, reverb_floats}
 
--- ---- numbers of a list, and their total
+-- ---- numbers of a list
 
 map_at : (f : ℕ → ℕ) (l : List ℕ) (k : ℕ) → k < length l → get_or (map f l) k 0 ≡ f (get_or l k 0)
 map_at f [] k h = absurd (omega arith)
 map_at f (x ∷ xs) zero h = refl
 map_at f (x ∷ xs) (suc k) h = map_at f xs k (omega arith)
 
-pub at_most_total : (l : List ℕ) (k : ℕ) → get_or l k 0 ≤ total l
-at_most_total [] k = omega arith
-at_most_total (x ∷ xs) zero = omega arith
-at_most_total (x ∷ xs) (suc k) = omega (arith, at_most_total xs k)
-
-pub total_split : (k : ℕ) (l : List ℕ) → total (take k l) + total (drop k l) ≡ total l
-total_split zero l = omega arith
-total_split (suc k) [] = refl
-total_split (suc k) (x ∷ xs) = omega (arith, total_split k xs)
-
-pub total_more : (l : List ℕ) (k : ℕ) → k < length l → total (drop k l) ≡ get_or l k 0 + total (drop (k + 1) l)
-total_more l k h = rw (add-one, drop-cons l k 0 h)
-
-total_within : (m : ℕ) (l : List ℕ) → ((k : ℕ) → k < length l → get_or l k 0 ≤ m) → total l ≤ length l * m
-total_within m [] h = omega arith
-total_within m (x ∷ xs) h = omega (arith, h 0 (omega arith), total_within m xs (λ k g. h (suc k) (omega arith)))
+-- those from place k on, read one by one
+pub rest_read : (l : List ℕ) (k n : ℕ) → n ≡ length l - k → map (λ j. get_or l j 0) (range_with_len k n) ≡ drop k l
+rest_read l k zero h = sym (drop_of_length-le l {i = k} (omega arith))
+rest_read l k (suc n) h = rw (rest_read l (k + 1) n (omega arith), add-one) (sym (drop-cons l k 0 (omega arith)))
 
 -- ---- the lines of both sides
 
@@ -54,12 +45,13 @@ module _ (rate : ℕ) where
   pub right_line : (k : ℕ) → k < 12 → get_or (reverb_lines rate) (12 + k) 0 ≡ length_of (get_or tunings k 0 + 23) rate
   right_line k h = line_at (12 + k) (omega arith) ∙ ap (λ n. length_of n rate) (get_or-append-add tunings (map (λ n. n + 23) tunings) k 0 ∙ map_at (λ n. n + 23) tunings k h)
 
-  pub floats_are : reverb_floats rate ≡ total (reverb_lines rate)
+  pub floats_are : reverb_floats rate ≡ sum (reverb_lines rate)
   unfolding reverb_floats
   floats_are = refl
 
   -- no line has more floats than there are frames in a second
   pub reverb_within : reverb_floats rate ≤ line_count * rate
-  reverb_within =
-      rw (floats_are, ← lines_length)
-      (total_within rate (reverb_lines rate) (λ k h. let few : k < line_count = omega (arith, lines_length) in rw (line_at k few) (line_within _ rate (omega (arith, at_most_total reverb_tunings k)))))
+  reverb_within = rw (floats_are, ← lines_length) (sum_by-le (λ n. n) rate (reverb_lines rate) each)
+    where
+      each : All (λ n. n ≤ rate) (reverb_lines rate)
+      each = All-from_get_or (λ n. n ≤ rate) (reverb_lines rate) 0 (λ k h. let few : k < line_count = omega (arith, lines_length) in rw (line_at k few) (line_within _ rate (omega (arith, get_or-le-sum_by (λ n. n) reverb_tunings k 0 few))))

@@ -1,5 +1,5 @@
 -- A reverb's lines: "at rate R a line of n has floor(n * R / 44100) floats". Definitions only.
-use Rattle.std.specs.Prelude.{List, [], ◌∷◌, ◌++◌, map, ℕ, ◌+◌, ◌*◌, ◌/◌}
+use Rattle.std.specs.Prelude.{List, [], ◌∷◌, ◌++◌, map, sum, ℕ, ◌+◌, ◌*◌, ◌/◌}
 
 -- the combs of one side
 abbrev pub side_combs : ℕ
@@ -34,12 +34,7 @@ unfoldable pub reverb_lines : ℕ → List ℕ
 unfolding length_of
 reverb_lines rate = map (λ n. length_of n rate) reverb_tunings
 
--- the lengths of these lines added up, as in "needed floats are the sum of all lines"
-abbrev pub total : List ℕ → ℕ
-total [] = 0
-total (n ∷ ns) = n + total ns
-
--- the floats of all of a reverb's lines together
+-- the floats of all of a reverb's lines together, as in "needed floats are the sum of all lines"
 unfoldable pub reverb_floats : ℕ → ℕ
 unfolding reverb_lines
-reverb_floats rate = total (reverb_lines rate)
+reverb_floats rate = sum (reverb_lines rate)

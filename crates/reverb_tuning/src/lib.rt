@@ -2,8 +2,8 @@
 // side's lines come after the left side's, and each has 23 floats more at 44,100 Hz.
 #![tactic(auto)]
 
-ghost use Rattle.std.specs.Prelude.{◌≡◌, get_or, drop};
-ghost use Rattle.reverb_tuning.specs.Tuning.{length_of, reverb_lines, total, reverb_floats};
+ghost use Rattle.std.specs.Prelude.{◌≡◌, get_or, drop, sum};
+ghost use Rattle.reverb_tuning.specs.Tuning.{length_of, reverb_lines, reverb_floats};
 
 // The combs of one side.
 pub const SIDE_COMBS: usize = 8;
@@ -33,23 +33,18 @@ pub fn line_length(tuning: u32, rate: u32) -> usize
 pub fn reverb_line(k: usize, rate: u32) -> usize
     ensures { result ≡ get_or (reverb_lines rate) k 0 }
 {
-    if k < SIDE_LINES {
-        return line_length(TUNINGS[k], rate);
+    match k {
+        0..SIDE_LINES => line_length(TUNINGS[k], rate),
+        SIDE_LINES..LINES => line_length(TUNINGS[k - SIDE_LINES] + 23, rate),
+        _ => 0,
     }
-    if k < LINES {
-        return line_length(TUNINGS[k - SIDE_LINES] + 23, rate);
-    }
-    0
 }
 
 // How many floats the lines of a reverb from line k on have together; 0 past the last line.
 pub fn floats_from(k: usize, rate: u32) -> usize
-    ensures { result ≡ total (drop k (reverb_lines rate)) }
+    ensures { result ≡ sum (drop k (reverb_lines rate)) }
 {
-    if LINES <= k {
-        return 0;
-    }
-    reverb_line(k, rate) + floats_from(k + 1, rate)
+    (k..LINES).map(|line| reverb_line(line, rate)).sum()
 }
 
 // How many floats of the store a reverb needs at this rate.

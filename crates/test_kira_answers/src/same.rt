@@ -4,7 +4,7 @@ use crate::case::Held;
 fn is_same_memory(a: Held, b: Held) -> bool {
     let positions = a.positions;
     let other_positions = b.positions;
-    if !same_slices::numbers(&positions, &other_positions) {
+    if !positions == other_positions {
         return false;
     }
     let floats = a.floats;
@@ -25,7 +25,7 @@ pub(crate) fn is_same(a: Held, b: Held) -> bool {
     }
     let progress = a.progress;
     let other_progress = b.progress;
-    if !same_slices::numbers(&progress, &other_progress) {
+    if !progress == other_progress {
         return false;
     }
     is_same_memory(a, b)

@@ -6,16 +6,16 @@ use Rattle.reverb_tuning.specs.Tuning.{reverb_lines}
 use Rattle.reverb_tuning.proofs.Tunings.{lines_length, left_line, right_line}
 use Rattle.reverb_tuning.proofs.reverb_line.Goals as goal
 
-pub returns-then-k-lt-SIDE_LINES : goal.returns-then-k-lt-SIDE_LINES
-returns-then-k-lt-SIDE_LINES c = c.line_length.ensures ∙ sym (left_line c.args.rate c.args.k (omega arith))
+pub returns-in-0-to-11 : goal.returns-in-0-to-11
+returns-in-0-to-11 c = c.line_length.ensures ∙ sym (left_line c.args.rate c.args.k (omega arith))
 
-pub returns-then-k-lt-LINES : goal.returns-then-k-lt-LINES
-returns-then-k-lt-LINES c =
+pub returns-in-12-to-23 : goal.returns-in-12-to-23
+returns-in-12-to-23 c =
     let a = c.args in
     let e : 12 + (a.k - 12) ≡ a.k = omega arith in
-    c.line_length-then-k-lt-LINES.ensures ∙ sym (right_line a.rate (a.k - 12) (omega arith)) ∙ ap (λ (n : ℕ). get_or (reverb_lines a.rate) n 0) e
+    c.line_length-in-12-to-23.ensures ∙ sym (right_line a.rate (a.k - 12) (omega arith)) ∙ ap (λ (n : ℕ). get_or (reverb_lines a.rate) n 0) e
 
-pub returns : goal.returns
-returns c =
+pub returns-in_default : goal.returns-in_default
+returns-in_default c =
     let a = c.args in
     sym (get_or-eq_default (reverb_lines a.rate) 0 {n = a.k} (omega (arith, lines_length a.rate)))

@@ -5,4 +5,4 @@ use Rattle.filters.proofs.eq_filter.bell.Goals as goal
 
 pub returns : goal.returns
 unfolding bell_of literal round of_bits
-returns c = rw c.weigh-w.ensures
+returns c = rw c.weigh-a1.ensures

@@ -16,7 +16,7 @@ returns c =
       c.as_f32-2.ensures,
       c.mul-dry.ensures,
       c.as_f32.ensures,
-      c.run_narrowed-stepped.ensures,
+      c.run_narrowed.ensures,
       c.calculate-c.ensures,
       to_z-of_z w32 c.args.gain c.ranges.gain,
     )

@@ -11,7 +11,7 @@ returns c =
       c.mixed.ensures,
       c.output-wet.ensures,
       c.as_f32.ensures,
-      c.run_narrowed-stepped.ensures,
-      c.weigh-a.ensures,
+      c.run_narrowed.ensures,
+      c.weigh.ensures,
       c.clamp_unit_f64.ensures,
     )

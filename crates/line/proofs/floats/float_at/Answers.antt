@@ -1,8 +1,7 @@
 use native.Mathlib.Omega.{arith}
 use lib.Ieee.{nan, div, of_bits}
-use lib.ListN.{get_or-eq_default}
 use Rattle.line.proofs.floats.float_at.Goals as goal
 
 pub returns : goal.returns
 unfolding div of_bits
-returns c = rw (get_or-eq_default c.args.line.now nan {n = c.args.place} (omega arith))
+returns c = rw (c.unwrap_or.ensures, c.copied.ensures) (c.get.ensures.lookup.4 (omega arith) nan)

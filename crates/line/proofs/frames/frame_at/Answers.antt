@@ -2,6 +2,7 @@ use Prim.Native.Nat.{◌+◌, ◌*◌}
 use native.Mathlib.Omega.{arith}
 use lib.Ieee.{nan, div, of_bits}
 use lib.ListN.{get_or-eq_default}
+use Rattle.frame.specs.Operations.{from_mono_of}
 use Rattle.line.specs.Frames.{frame_at}
 use Rattle.line.proofs.frames.frame_at.Goals as goal
 
@@ -9,9 +10,9 @@ pub returns-then-at-line : goal.returns-then-at-line
 unfolding frame_at
 returns-then-at-line c = rw (c.float_at.ensures, c.float_at-then-at-line.ensures)
 
-pub returns : goal.returns
-unfolding frame_at div of_bits
-returns c =
+pub returns-else-at-line : goal.returns-else-at-line
+unfolding frame_at from_mono_of div of_bits
+returns-else-at-line c =
     let l = c.args.line.now in
     let at = c.args.at in
-    rw (get_or-eq_default l nan {n = 2 * at} (omega arith), get_or-eq_default l nan {n = 2 * at + 1} (omega arith))
+    rw (c.from_mono.ensures, get_or-eq_default l nan {n = 2 * at} (omega arith), get_or-eq_default l nan {n = 2 * at + 1} (omega arith))
