@@ -10,20 +10,20 @@ ghost use Rattle.chain.specs.Run.{answer_on, order_to_end};
 use crate::run::Outcome;
 use answer::Refusal;
 use frame::Frame;
+use line_layout::layout::Layout;
 use memories::{PLACE_FLOATS, PLACE_POSITIONS};
 use refusals::call::check;
-use stage::setup::{ENDS, Setup};
+use stage::setup::Setup;
 use stage_step::place;
 use top_stages::Tops;
 
-// A chain, where its lines start and where its top stages stand.
+// A chain and where its lines start, and where its top stages stand.
 #[derive(Clone, Copy)]
 pub(crate) struct Plan {
-    pub setup: Setup,
-    pub starts: [usize; ENDS],
+    pub layout: Layout,
     pub tops: Tops,
-    ghost starts_are: { starts ≡ starts_of setup },
-    ghost tops_are: { tops ≡ tops_record setup },
+    ghost starts_are: { layout.starts ≡ starts_of layout.setup },
+    ghost tops_are: { tops ≡ tops_record layout.setup },
 }
 
 impl Plan {
@@ -36,7 +36,7 @@ impl Plan {
         order: &[usize],
     ) -> Result<Plan, Refusal>
         ensures answer { answer_given result ≡ answer_on setup (block samples.now store.now outcome.now) order.now }
-        ensures setup { IfOk result (λ plan. plan.setup ≡ setup) }
+        ensures setup { IfOk result (λ plan. plan.layout.setup ≡ setup) }
     {
         let checked = check(
             setup,
@@ -48,22 +48,21 @@ impl Plan {
         );
         checked.answer?;
         Ok(Plan {
-            setup,
-            starts: checked.starts,
+            layout: checked.layout,
             tops: checked.tops,
         })
     }
 
     // Runs top stage k on its next frame.
     fn advance(&self, k: usize, samples: &mut [f32], store: &mut [f32], outcome: &mut Outcome)
-        requires ready { Ready self.now.setup (block samples.old store.old outcome.old) }
-        requires may { May self.now.setup (block samples.old store.old outcome.old) k }
-        ensures { block samples.new store.new outcome.new ≡ stepped self.now.setup k (block samples.old store.old outcome.old) }
+        requires ready { Ready self.now.layout.setup (block samples.old store.old outcome.old) }
+        requires may { May self.now.layout.setup (block samples.old store.old outcome.old) k }
+        ensures { block samples.new store.new outcome.new ≡ stepped self.now.layout.setup k (block samples.old store.old outcome.old) }
     {
         let i = self.tops.places[k];
         let e = self.tops.places[k + 1];
-        let a = self.starts[i];
-        let b = self.starts[e];
+        let a = self.layout.starts[i];
+        let b = self.layout.starts[e];
         let p = PLACE_POSITIONS * i;
         let pe = PLACE_POSITIONS * e;
         let f = PLACE_FLOATS * i;
@@ -75,8 +74,7 @@ impl Plan {
             right: samples[at + 1],
         };
         let y = place::process(
-            self.setup,
-            &self.starts,
+            &self.layout,
             i,
             e,
             x,
@@ -97,9 +95,9 @@ impl Plan {
         store: &mut [f32],
         outcome: &mut Outcome,
     )
-        requires ready { Ready self.now.setup (block samples.old store.old outcome.old) }
-        requires orderly { Orderly self.now.setup (block samples.old store.old outcome.old) order.now }
-        ensures { block samples.new store.new outcome.new ≡ ordered self.now.setup (block samples.old store.old outcome.old) order.now }
+        requires ready { Ready self.now.layout.setup (block samples.old store.old outcome.old) }
+        requires orderly { Orderly self.now.layout.setup (block samples.old store.old outcome.old) order.now }
+        ensures { block samples.new store.new outcome.new ≡ ordered self.now.layout.setup (block samples.old store.old outcome.old) order.now }
     {
         for k in order {
             self.advance(*k, samples, store, outcome);
@@ -108,11 +106,11 @@ impl Plan {
 
     // Runs top stage k on all the frames that it has left.
     fn advance_to_end(&self, k: usize, samples: &mut [f32], store: &mut [f32], outcome: &mut Outcome)
-        requires ready { Ready self.now.setup (block samples.old store.old outcome.old) }
-        requires k_bound { k < tops_of self.now.setup }
-        requires orderly { Orderly self.now.setup (block samples.old store.old outcome.old) (replicate (frames_of samples.old - get_or outcome.old.progress k 0) k) }
+        requires ready { Ready self.now.layout.setup (block samples.old store.old outcome.old) }
+        requires k_bound { k < tops_of self.now.layout.setup }
+        requires orderly { Orderly self.now.layout.setup (block samples.old store.old outcome.old) (replicate (frames_of samples.old - get_or outcome.old.progress k 0) k) }
         ensures { block samples.new store.new outcome.new
-            ≡ ordered self.now.setup (block samples.old store.old outcome.old) (replicate (frames_of samples.old - get_or outcome.old.progress k 0) k) }
+            ≡ ordered self.now.layout.setup (block samples.old store.old outcome.old) (replicate (frames_of samples.old - get_or outcome.old.progress k 0) k) }
     {
         let frames = samples.len() / 2;
         while outcome.progress[k] < frames {
@@ -122,9 +120,9 @@ impl Plan {
 
     // Runs every top stage to the last frame, one stage after another.
     pub(crate) fn finish(&self, samples: &mut [f32], store: &mut [f32], outcome: &mut Outcome)
-        requires ready { Ready self.now.setup (block samples.old store.old outcome.old) }
+        requires ready { Ready self.now.layout.setup (block samples.old store.old outcome.old) }
         ensures { block samples.new store.new outcome.new
-            ≡ ordered self.now.setup (block samples.old store.old outcome.old) (order_to_end self.now.setup (block samples.old store.old outcome.old)) }
+            ≡ ordered self.now.layout.setup (block samples.old store.old outcome.old) (order_to_end self.now.layout.setup (block samples.old store.old outcome.old)) }
     {
         for k in 0..self.tops.n {
             self.advance_to_end(k, samples, store, outcome);

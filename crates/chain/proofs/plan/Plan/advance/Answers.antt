@@ -14,7 +14,7 @@ use Rattle.chain.proofs.plan.Plan.advance.Goals.{Start}
 part_length : {A : Type 0} (a b : ℕ) (xs : List A) → a ≤ b → b ≤ length xs → length (take (b - a) (drop a xs)) ≡ b - a
 part_length a b xs h g = length-take-le (b - a) (drop a xs) (omega (arith, length-drop a xs))
 
-here : (c : Start) → Located c.args.self.now.setup c.args.k c.args.self.now.starts c.args.self.now.tops.places (block c.args.samples.now c.args.store.now c.args.outcome.now)
+here : (c : Start) → Located c.args.self.now.layout.setup c.args.k c.args.self.now.layout.starts c.args.self.now.tops.places (block c.args.samples.now c.args.store.now c.args.outcome.now)
 here c = located _ _ _ _ _ c.args.self.now.starts_are (ap (λ t. t.places) c.args.self.now.tops_are) c.requires.ready c.requires.may
 
 pub offset_bounds-self-i : goal.offset_bounds-self-i

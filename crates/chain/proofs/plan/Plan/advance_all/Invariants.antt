@@ -6,4 +6,4 @@ use Rattle.chain.proofs.plan.Plan.advance_all.Given as goal
 
 abbrev pub invariant-loop-k : goal.invariant-loop-k
 invariant-loop-k l =
-    Pending l.self.setup (block l.initial.samples l.initial.store l.initial.outcome) l.order (block l.samples l.store l.outcome) (drop l.k-index l.order)
+    Pending l.self.layout.setup (block l.initial.samples l.initial.store l.initial.outcome) l.order (block l.samples l.store l.outcome) (drop l.k-index l.order)

@@ -7,7 +7,7 @@ use Rattle.chain.proofs.plan.Plan.advance_to_end.Given as goal
 
 abbrev pub invariant-loop-outcome : goal.invariant-loop-outcome
 invariant-loop-outcome l =
-    Pending l.self.setup (block l.initial.samples l.initial.store l.initial.outcome) (replicate (frames_of l.initial.samples - get_or l.initial.outcome.progress l.k 0) l.k) (block l.samples l.store l.outcome)
+    Pending l.self.layout.setup (block l.initial.samples l.initial.store l.initial.outcome) (replicate (frames_of l.initial.samples - get_or l.initial.outcome.progress l.k 0) l.k) (block l.samples l.store l.outcome)
     (replicate (frames_of l.initial.samples - get_or l.outcome.progress l.k 0) l.k)
 
 abbrev pub decreases-loop-outcome : goal.decreases-loop-outcome

@@ -7,8 +7,8 @@ use Rattle.chain.proofs.plan.Plan.finish.Goals as goal
 use Rattle.chain.proofs.plan.Plan.finish.Goals.{Start}
 
 -- the plan counts the top stages
-counted : (c : Start) → c.args.self.now.tops.n ≡ tops_of c.args.self.now.setup
-counted c = tops_found c.args.self.now.setup c.args.self.now.tops_are
+counted : (c : Start) → c.args.self.now.tops.n ≡ tops_of c.args.self.now.layout.setup
+counted c = tops_found c.args.self.now.layout.setup c.args.self.now.tops_are
 
 pub loop-k-init : goal.loop-k-init
 loop-k-init c = finish_first c.requires.ready

@@ -4,4 +4,4 @@ use Rattle.chain.proofs.Turns.{Finished}
 use Rattle.chain.proofs.plan.Plan.finish.Given as goal
 
 abbrev pub invariant-loop-k : goal.invariant-loop-k
-invariant-loop-k l = Finished l.self.setup (block l.initial.samples l.initial.store l.initial.outcome) l.k (block l.samples l.store l.outcome)
+invariant-loop-k l = Finished l.self.layout.setup (block l.initial.samples l.initial.store l.initial.outcome) l.k (block l.samples l.store l.outcome)
