@@ -4,7 +4,7 @@ ghost use Rattle.std.specs.Prelude.{◌≡◌};
 ghost use Rattle.filters.specs.Filter.{output_of, filter_of};
 
 use crate::narrowed::run_narrowed;
-use float::clamp::clamp_unit_f64;
+use float::clamp::clamp_unit;
 use frame::Frame;
 use integrators::{Filtered, Integrators, Parts, weigh};
 use rounding::narrow::as_f32;
@@ -45,7 +45,7 @@ pub fn process(
 ) -> Filtered
     ensures { result ≡ filter_of mode g resonance mix memory input }
 {
-    let k = 2.0 - 1.9 * clamp_unit_f64(resonance);
+    let k = 2.0 - 1.9 * clamp_unit(resonance);
     let a = weigh(g, k);
     let stepped = run_narrowed(memory, input, a.a1, a.a2, a.a3);
     let parts = stepped.parts;

@@ -4,7 +4,7 @@
 ghost use Rattle.std.specs.Prelude.{◌≡◌};
 ghost use Rattle.same_slices.specs.Same.{same_floats, same_numbers};
 
-use float::bits::to_bits_f32;
+use float::bits::to_bits;
 
 // Whether two slices have the same length and the same floats, bit for bit; all NaNs count as one.
 pub fn floats(a: &[f32], b: &[f32]) -> bool
@@ -15,7 +15,7 @@ pub fn floats(a: &[f32], b: &[f32]) -> bool
     }
     let mut i = 0;
     while i < a.len() {
-        if to_bits_f32(a[i]) != to_bits_f32(b[i]) {
+        if to_bits(a[i]) != to_bits(b[i]) {
             return false;
         }
         i += 1;

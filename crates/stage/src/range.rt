@@ -3,7 +3,7 @@ ghost use Rattle.std.specs.Prelude.{◌≡◌};
 ghost use Rattle.stage.specs.Range.{between_z, tangent_of, unit_range, delay_range, in_range_of};
 
 use crate::kind::Stage;
-use float::finite::{is_finite_f32, is_finite_f64};
+use float::finite::is_finite;
 
 // A whole number from `low` to `high`, both included.
 fn whole_between(x: i32, low: i32, high: i32) -> bool
@@ -30,7 +30,7 @@ fn is_tangent(g: f64) -> bool
 fn delay_in_range(frames: u32, feedback: i32, mix: f32) -> bool
     ensures { result ≡ delay_range frames feedback mix }
 {
-    (1 <= frames) & (frames <= 480000) & (feedback <= 24) & is_finite_f32(mix)
+    (1 <= frames) & (frames <= 480000) & (feedback <= 24) & is_finite(mix)
 }
 
 // Whether every setting of the stage is finite and in its range. How many stages a delay owns is not
@@ -40,18 +40,18 @@ pub fn in_range(stage: Stage) -> bool
 {
     match stage {
         Stage::VolumeControl { volume } => volume <= 24,
-        Stage::PanningControl { panning } => is_finite_f32(panning),
+        Stage::PanningControl { panning } => is_finite(panning),
         Stage::Distortion {
             kind: _,
             drive,
             mix,
-        } => whole_between(drive, -59, 24) & is_finite_f32(mix),
+        } => whole_between(drive, -59, 24) & is_finite(mix),
         Stage::Filter {
             mode: _,
             g,
             resonance,
             mix,
-        } => is_tangent(g) & is_finite_f64(resonance) & is_finite_f32(mix),
+        } => is_tangent(g) & is_finite(resonance) & is_finite(mix),
         Stage::EqFilter {
             kind: _,
             g,
@@ -63,7 +63,7 @@ pub fn in_range(stage: Stage) -> bool
             damping,
             stereo_width,
             mix,
-        } => is_unit(feedback) & is_unit(damping) & is_unit(stereo_width) & is_finite_f32(mix),
+        } => is_unit(feedback) & is_unit(damping) & is_unit(stereo_width) & is_finite(mix),
         Stage::Delay {
             frames,
             feedback,

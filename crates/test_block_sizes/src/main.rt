@@ -8,11 +8,11 @@ mod echo;
 mod spoilt;
 
 use crate::echo::{Ended, echo};
-use float::bits::to_bits_f32;
+use float::bits::to_bits;
 use std::io;
 
 fn say_bits(rt: &impl Print, name: &str, x: f32) -> io::Result<()> {
-    let bits = to_bits_f32(x);
+    let bits = to_bits(x);
     println!(rt; "{name}{bits:08x}")
 }
 

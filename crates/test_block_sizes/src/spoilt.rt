@@ -1,11 +1,11 @@
 // What the echo left, with the last number of one part changed: a float by its lowest bit.
 use crate::echo::Ended;
-use float::bits::{from_bits_f32, to_bits_f32};
+use float::bits::{from_bits, to_bits};
 use memories::{ALL_FLOATS, ALL_POSITIONS, Memories};
 
 fn next_to(x: f32) -> f32 {
-    let bits = to_bits_f32(x);
-    from_bits_f32(bits / 2 * 2 + (1 - bits % 2))
+    let bits = to_bits(x);
+    from_bits(bits / 2 * 2 + (1 - bits % 2))
 }
 
 pub(crate) fn sample(ended: Ended) -> Ended {

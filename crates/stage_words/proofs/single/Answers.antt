@@ -1,4 +1,4 @@
--- What `from_bits_f32` promises of the word's low half. Assumes nothing.
+-- What `from_bits` promises of the word's low half. Assumes nothing.
 use Rattle.stage_words.specs.Words.{single_of}
 use Rattle.stage_words.proofs.single.Goals as goal
 

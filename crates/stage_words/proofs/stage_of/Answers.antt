@@ -20,11 +20,11 @@ returns-then-w-eq2 c = rw c.if-w-eq2.true (λ i. Distortion (c.clip_at.ensures i
 
 pub returns-then-w-eq3 : goal.returns-then-w-eq3
 unfolding stage_of
-returns-then-w-eq3 c = rw c.if-w-eq3.true (λ i. Filter (c.mode_at.ensures i) (c.from_bits_f64.ensures i) (c.from_bits_f64-then-w-eq3.ensures i) (c.single-then-w-eq3.ensures i))
+returns-then-w-eq3 c = rw c.if-w-eq3.true (λ i. Filter (c.mode_at.ensures i) (c.from_bits.ensures i) (c.from_bits-then-w-eq3.ensures i) (c.single-then-w-eq3.ensures i))
 
 pub returns-then-w-eq4 : goal.returns-then-w-eq4
 unfolding stage_of
-returns-then-w-eq4 c = rw c.if-w-eq4.true (λ i. EqFilter (c.eq_kind_at.ensures i) (c.from_bits_f64-then-w-eq4.ensures i) (level_kept _ _ c.level-then-w-eq4.ensures i) (c.from_bits_f64-then-w-eq4-2.ensures i))
+returns-then-w-eq4 c = rw c.if-w-eq4.true (λ i. EqFilter (c.eq_kind_at.ensures i) (c.from_bits-then-w-eq4.ensures i) (level_kept _ _ c.level-then-w-eq4.ensures i) (c.from_bits-then-w-eq4-2.ensures i))
 
 pub returns : goal.returns
 unfolding stage_of

@@ -13,5 +13,5 @@ returns c =
       c.as_f32.ensures,
       c.run_narrowed-stepped.ensures,
       c.weigh-a.ensures,
-      c.clamp_unit_f64.ensures,
+      c.clamp_unit.ensures,
     )

@@ -6,4 +6,4 @@ use Rattle.stage.proofs.range.delay_in_range.Goals as goal
 
 pub returns : goal.returns
 unfolding delay_range
-returns c = rw (c.is_finite_f32.ensures, to_z-of_z w32 c.args.feedback c.ranges.feedback)
+returns c = rw (c.is_finite.ensures, to_z-of_z w32 c.args.feedback c.ranges.feedback)
