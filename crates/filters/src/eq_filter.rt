@@ -5,7 +5,7 @@ ghost use Rattle.filters.specs.EqFilter.{bell_of, low_shelf_of, high_shelf_of, c
 
 use crate::narrowed::run_narrowed;
 use decibels::eq_amplitude;
-use float::clamp::at_least_hundredth_f64;
+use float::clamp::at_least_hundredth;
 use frame::Frame;
 use integrators::{Filtered, Integrators, Parts, Stepped, Weights, weigh};
 use rounding::narrow::as_f32;
@@ -83,7 +83,7 @@ impl Coefficients {
     pub fn calculate(kind: EqFilterKind, g: f64, q: f64, gain: i32) -> Self
         ensures { result ≡ coefficients_of kind g q gain }
     {
-        let q = at_least_hundredth_f64(q);
+        let q = at_least_hundredth(q);
         let a = eq_amplitude(gain);
         match kind {
             EqFilterKind::Bell => bell(g, q, a),

@@ -8,7 +8,7 @@ ghost use Rattle.frame.specs.Operations.{zero_frame, new_of, from_mono_of, as_mo
 ghost use Rattle.frame.specs.Mix.{mix_of};
 ghost use Rattle.frame.specs.Panning.{panned_of};
 
-use float::clamp::{clamp_signed_unit_f32, clamp_unit_f32};
+use float::clamp::{clamp_signed_unit, clamp_unit};
 use rounding::sqrt::sqrt_f32;
 
 // kira's `Frame`: a left and a right sample, any two floats, NaN and infinities included.
@@ -108,7 +108,7 @@ impl Frame {
     pub fn mixed(self, dry: Frame, mix: f32) -> Self
         ensures { result ≡ mix_of self dry mix }
     {
-        let clamped = clamp_unit_f32(mix);
+        let clamped = clamp_unit(mix);
         let wet = self.mul(sqrt_f32(clamped));
         wet.add(dry.mul(sqrt_f32(1.0 - clamped)))
     }
@@ -121,7 +121,7 @@ impl Frame {
         if panning == 0.0 {
             return self;
         }
-        let left_right_mix = (clamp_signed_unit_f32(panning) + 1.0) * 0.5;
+        let left_right_mix = (clamp_signed_unit(panning) + 1.0) * 0.5;
         let sides = Frame {
             left: self.left * sqrt_f32(1.0 - left_right_mix),
             right: self.right * sqrt_f32(left_right_mix),

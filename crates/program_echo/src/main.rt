@@ -4,7 +4,7 @@
 
 use answer::number;
 use chain::render::render;
-use float::bits::to_bits_f32;
+use float::bits::to_bits;
 use fresh_start::start::start;
 use memories::PLACES;
 use stage::kind::Stage;
@@ -13,7 +13,7 @@ use std::io;
 
 // One sample, as the eight digits of its bits, on a line of its own.
 fn say(rt: &impl Print, sample: f32) -> io::Result<()> {
-    let bits = to_bits_f32(sample);
+    let bits = to_bits(sample);
     println!(rt; "{bits:08x}")
 }
 

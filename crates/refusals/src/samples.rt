@@ -5,7 +5,7 @@ ghost use Rattle.theory_tables.specs.Condition.{decide};
 ghost use Rattle.refusals.specs.Refusals.{unrun_from, bad_sample, sample_answer};
 
 use answer::Answer;
-use float::finite::is_finite_f32;
+use float::finite::is_finite;
 use memories::PLACES;
 
 // The first sample from `from` on that is not finite, or how many samples there are.
@@ -15,7 +15,7 @@ fn first_bad(samples: &[f32], from: usize) -> usize
 {
     let mut i = from;
     while i < samples.len() {
-        if !is_finite_f32(samples[i]) {
+        if !is_finite(samples[i]) {
             return i;
         }
         i += 1;

@@ -3,7 +3,7 @@ ghost use Rattle.std.specs.Prelude.{◌≡◌};
 ghost use Rattle.stage.specs.Range.{tangent_of, unit_range, delay_range, in_range_of};
 
 use crate::kind::Stage;
-use float::finite::{is_finite_f32, is_finite_f64};
+use float::finite::is_finite;
 
 // An f32 from 0 to 1, -0 included.
 fn is_unit(x: f32) -> bool
@@ -23,7 +23,7 @@ fn is_tangent(g: f64) -> bool
 fn delay_in_range(frames: u32, feedback: i32, mix: f32) -> bool
     ensures { result ≡ delay_range frames feedback mix }
 {
-    (1..=480000).contains(&frames) & (feedback <= 24) & is_finite_f32(mix)
+    (1..=480000).contains(&frames) & (feedback <= 24) & is_finite(mix)
 }
 
 impl Stage {
@@ -34,16 +34,16 @@ impl Stage {
     {
         match self {
             Stage::VolumeControl { volume } => volume <= 24,
-            Stage::PanningControl { panning } => is_finite_f32(panning),
+            Stage::PanningControl { panning } => is_finite(panning),
             Stage::Distortion { drive, mix, .. } => {
-                (-59..=24).contains(&drive) & is_finite_f32(mix)
+                (-59..=24).contains(&drive) & is_finite(mix)
             }
             Stage::Filter {
                 g,
                 resonance,
                 mix,
                 ..
-            } => is_tangent(g) & is_finite_f64(resonance) & is_finite_f32(mix),
+            } => is_tangent(g) & is_finite(resonance) & is_finite(mix),
             Stage::EqFilter { g, gain, q, .. } => {
                 is_tangent(g) & (-24..=24).contains(&gain) & (0.0..=1000.0).contains(&q)
             }
@@ -52,7 +52,7 @@ impl Stage {
                 damping,
                 stereo_width,
                 mix,
-            } => is_unit(feedback) & is_unit(damping) & is_unit(stereo_width) & is_finite_f32(mix),
+            } => is_unit(feedback) & is_unit(damping) & is_unit(stereo_width) & is_finite(mix),
             Stage::Delay {
                 frames,
                 feedback,

@@ -2,7 +2,7 @@
 use crate::say::{delay, say, say_number};
 use chain::render::render;
 use chain::run::run;
-use float::bits::to_bits_f32;
+use float::bits::to_bits;
 use fresh_start::start::start;
 use memories::{PLACES, zero};
 use stage::setup::{Setup, empty, with};
@@ -14,7 +14,7 @@ fn alone(rate: u32, frames: u32) -> Setup {
 }
 
 fn say_bits(rt: &impl Print, name: &str, x: f32) -> io::Result<()> {
-    say_number(rt, name, to_bits_f32(x) as u64)
+    say_number(rt, name, to_bits(x) as u64)
 }
 
 // A delay of 2 frames over a block of one. Its line holds ones, and the samples are one half.

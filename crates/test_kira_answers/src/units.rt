@@ -1,7 +1,7 @@
 // A case read in units of 16 bits, the low byte first. Units past its end are 0.
 ghost use Rattle.std.specs.Prelude.{◌≤◌, ◌<◌};
 
-use float::bits::from_bits_f32;
+use float::bits::from_bits;
 
 fn wide(byte: u8) -> usize
     ensures { result < 256 }
@@ -36,7 +36,7 @@ pub(crate) fn word(bytes: &[u8], i: usize) -> u64
 pub(crate) fn float(bytes: &[u8], i: usize) -> f32
     requires { i ≤ 65536 }
 {
-    from_bits_f32(long(bytes, i) as u32)
+    from_bits(long(bytes, i) as u32)
 }
 
 // The number of one unit; the largest unit stands for the largest number.

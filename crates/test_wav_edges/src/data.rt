@@ -1,6 +1,6 @@
 // Cases of single samples, by their numbers, and of blocks of frames.
 use crate::say;
-use float::bits::from_bits_f32;
+use float::bits::from_bits;
 use sedhavil_wav::{sedhavil_wav_frames_in, sedhavil_wav_frames_out};
 use std::io;
 
@@ -37,7 +37,7 @@ pub(crate) fn sample_in(rt: &impl Print, k: usize) -> io::Result<()> {
 pub(crate) fn sample_out(rt: &impl Print, k: usize) -> io::Result<()> {
     if k < 26 {
         let mut samples = [0.0; 26];
-        samples[k] = from_bits_f32(FLOATS[k]);
+        samples[k] = from_bits(FLOATS[k]);
         let mut bytes = [0; 52];
         sedhavil_wav_frames_out(&samples, &mut bytes);
         say::name(rt, "out")?;

@@ -1,5 +1,5 @@
 // What the cases share: numbers on a line.
-use float::bits::to_bits_f32;
+use float::bits::to_bits;
 use sedhavil_wav::WavHeader;
 use std::io;
 
@@ -16,7 +16,7 @@ pub(crate) fn byte(rt: &impl Print, b: u8) -> io::Result<()> {
 }
 
 pub(crate) fn bits(rt: &impl Print, x: f32) -> io::Result<()> {
-    next(rt, to_bits_f32(x) as u64)
+    next(rt, to_bits(x) as u64)
 }
 
 pub(crate) fn end(rt: &impl Print) -> io::Result<()> {

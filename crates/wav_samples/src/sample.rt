@@ -5,7 +5,7 @@ ghost use Rattle.std.specs.Float.Ieee.{of_fields};
 ghost use Rattle.wav_samples.specs.Sample.{sample_in, sample_out, steps_of, held_of};
 
 use crate::pcm::complement;
-use float::bits::to_bits_f32;
+use float::bits::to_bits;
 use rounding::quotient::nearest_quotient;
 
 // The float of a 16-bit sample: s / 32768, without rounding.
@@ -56,7 +56,7 @@ fn below_zero(n: u64) -> i16
 pub fn sample_out(x: f32) -> i16
     ensures { result ≡ sample_out x }
 {
-    let bits = to_bits_f32(x) as u64;
+    let bits = to_bits(x) as u64;
     let n = steps(bits % 0x8000_0000 / 0x80_0000, bits % 0x80_0000);
     if bits < 0x8000_0000 {
         above_zero(n)

@@ -9,4 +9,4 @@ pub returns : goal.returns
 unfolding delay_range
 returns c =
     let range = c.new.ensures in
-    rw (c.is_finite_f32.ensures, to_z-of_z w32 c.args.feedback c.ranges.feedback, c.contains.ensures.value, range.start, range.end, range.exhausted) (simp nat_le)
+    rw (c.is_finite.ensures, to_z-of_z w32 c.args.feedback c.ranges.feedback, c.contains.ensures.value, range.start, range.end, range.exhausted) (simp nat_le)

@@ -17,18 +17,18 @@ returns-in-VolumeControl c =
 
 pub returns-in-PanningControl : goal.returns-in-PanningControl
 unfolding in_range_of
-returns-in-PanningControl c = rw (c.is_finite_f32.ensures, c.in-PanningControl.is)
+returns-in-PanningControl c = rw (c.is_finite.ensures, c.in-PanningControl.is)
 
 pub returns-in-Distortion : goal.returns-in-Distortion
 unfolding in_range_of
 returns-in-Distortion c =
     let fits : SFits w32 c.in-Distortion.drive = search rules in
     let range = c.new.ensures in
-    rw (c.is_finite_f32-in-Distortion.ensures, c.in-Distortion.is, c.contains.ensures.value, range.start, range.end, range.exhausted, to_z-of_z w32 c.in-Distortion.drive fits) (simp int_le)
+    rw (c.is_finite-in-Distortion.ensures, c.in-Distortion.is, c.contains.ensures.value, range.start, range.end, range.exhausted, to_z-of_z w32 c.in-Distortion.drive fits) (simp int_le)
 
 pub returns-in-Filter : goal.returns-in-Filter
 unfolding in_range_of
-returns-in-Filter c = rw (c.is_finite_f32-in-Filter.ensures, c.is_finite_f64.ensures, c.is_tangent.ensures, c.in-Filter.is)
+returns-in-Filter c = rw (c.is_finite-in-Filter.ensures, c.is_finite.ensures, c.is_tangent.ensures, c.in-Filter.is)
 
 pub returns-in-EqFilter : goal.returns-in-EqFilter
 unfolding in_range_of literal round of_bits
@@ -40,7 +40,7 @@ returns-in-EqFilter c =
 
 pub returns-in-Reverb : goal.returns-in-Reverb
 unfolding in_range_of
-returns-in-Reverb c = rw (c.is_finite_f32-in-Reverb.ensures, c.is_unit-in-Reverb-2.ensures, c.is_unit-in-Reverb.ensures, c.is_unit.ensures, c.in-Reverb.is)
+returns-in-Reverb c = rw (c.is_finite-in-Reverb.ensures, c.is_unit-in-Reverb-2.ensures, c.is_unit-in-Reverb.ensures, c.is_unit.ensures, c.in-Reverb.is)
 
 pub returns-in-Delay : goal.returns-in-Delay
 unfolding in_range_of

@@ -3,7 +3,7 @@ use mathlib.Core.Bool.{Bool, cond}
 use lib.Ieee.{binary64, of_bits, round}
 use Rattle.float.specs.Literal.{literal}
 use Rattle.float.specs.Clamp.{hundredth_of}
-use Rattle.float.proofs.clamp.at_least_hundredth_f64.Goals as goal
+use Rattle.float.proofs.clamp.at_least_hundredth.Goals as goal
 
 pub returns-then-q : goal.returns-then-q
 unfolding hundredth_of literal round of_bits
