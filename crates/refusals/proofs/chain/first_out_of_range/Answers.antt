@@ -1,12 +1,16 @@
--- `chain::first_out_of_range` meets its contract: it has looked at the numbers below i. The measure is what is left to look at. Assumes nothing.
-use mathlib.Core.Path.{ap, sym, ◌∙◌}
+use mathlib.Core.Path.{◌≡◌}
 use mathlib.Core.Bool.{not}
-use native.Mathlib.Omega.{arith}
-use Rattle.theory_tables.proofs.Firsts.{look_found, look_over}
+use lib.ListN.{take}
+use Rattle.std.proofs.Common.{rules}
+use Rattle.std.specs.List.{position}
+use Rattle.std.proofs.iter.runs.Made.{chains}
+use Rattle.stage.specs.Setup.{used_of}
+use Rattle.stage.specs.Range.{in_range_of}
 use Rattle.refusals.proofs.chain.first_out_of_range.Goals as goal
+use Rattle.refusals.proofs.chain.first_out_of_range.Goals.{After-position}
 
-pub returns-then-not-in_range : goal.returns-then-not-in_range
-returns-then-not-in_range c = look_found c.loop-i.invariant (omega arith) (ap not (sym c.in_range.ensures ∙ c.if-not-in_range.true))
+first_of_stages : (c : After-position) → c.position.result ≡ position (λ slot. not (in_range_of slot.stage)) (take (used_of c.args.setup.now) c.args.setup.now.slots)
+first_of_stages c = search (rules, chains)
 
 pub returns : goal.returns
-returns c = look_over c.loop-i.invariant (omega arith)
+returns c = ?
