@@ -1,3 +1,0 @@
-pub mod Unrun
-pub mod Parts
-pub mod OneOutcome

@@ -1,0 +1,72 @@
+-- The first number at which something is so, as std's `find`, `any` and `position` look for it: where the closure is the test. Assumes nothing.
+use mathlib.Core.Path.{◌≡◌, refl, ap, sym, ◌∙◌}
+use mathlib.Core.Bool.{Bool, true, false, cond, ◌||◌}
+use mathlib.Core.List.{List}
+use Prim.Native.Nat.{ℕ, zero, suc, ◌+◌, ◌≤◌, ◌<◌}
+use native.Mathlib.Omega.{arith}
+use native.Mathlib.Decide.{dec_lt}
+use native.Mathlib.Numerals.{add-one}
+use lib.Dec.{ltb}
+use lib.ListN.{length, get_or}
+use borrow.Author.Tests.{lt-ltb, le-ltb}
+use denote.Param.Members.{Mut}
+use denote.Ref.{Bor}
+use Rattle.std.specs.Prelude.{Option, Some, None}
+use Rattle.std.specs.Bool.{⊤}
+use Rattle.std.specs.Fn.{CalledAt}
+use Rattle.std.specs.Iterator.{YieldsThen}
+use Rattle.std.specs.List.{FoldsTo, list_any, position, position_or_len, range_with_len}
+use Rattle.std.specs.Option.{MatchOption}
+use Rattle.std.specs.declared.ops.Range.{Range}
+use Rattle.std.proofs.iter.Yields.{nat_range_steps}
+use Rattle.std.proofs.lemmas.Iterator.{first_from_Range}
+use Rattle.std.proofs.lemmas.List.Sums.{position_or_len_is}
+use Rattle.theory_tables.specs.First.{first_from, first_of, some, found_of}
+use Rattle.theory_tables.proofs.Firsts.{first_le, first_is, first_so, first_clear, some_hit, some_none}
+
+module _ (t : ℕ → Bool) where
+  -- ---- `find` over the numbers from a on, below which it is so nowhere
+  module _ {a : ℕ} (before : (j : ℕ) → j < a → t j ≡ false) where
+    nowhere : (k : ℕ) → ((j : ℕ) → a ≤ j → j < k → t j ≡ false) → (j : ℕ) → j < k → t j ≡ false
+    nowhere k f j h = go (dec_lt j a)
+      where
+        go : Dec (j < a) → t j ≡ false
+        go (yes g) = before j g
+        go (no g) = f j (omega arith) h
+
+    found_first : (n : ℕ) (r : Option ℕ)
+        → MatchOption r ((j : ℕ) → a ≤ j → j < n → t j ≡ false) (λ k. (a ≤ k) × (k < n) × (t k ≡ true) × ((j : ℕ) → a ≤ j → j < k → t j ≡ false))
+        → r ≡ found_of t n
+    found_first n None h = rw (some_none t n (nowhere n h)) refl
+    found_first n (Some k) (z, h, q, f) = rw (some_hit t n k h q, first_is t n k h (nowhere k f) q) refl
+
+  pub found_by_find : {F : Type 0} {g : Mut F (Bor ℕ × Unit {0}) Bool} (s u : Range ℕ) (f : F) (r : Option ℕ) → ((j : ℕ) → j < s.start → t j ≡ false)
+      → (xs : List ℕ) × (j : F) × YieldsThen nat_range_steps s xs r u × FoldsTo (λ p x q. CalledAt g p x false q) f xs j × MatchOption r ⊤ (λ x. (h : F) × CalledAt g j x true h)
+      → ((x : ℕ) (b : Bool) (q : F) → CalledAt g f x b q → (q ≡ f) × (b ≡ t x))
+      → r ≡ found_of t s.end
+  found_by_find s u f r before ran closure =
+      found_first before s.end r
+      (first_from_Range s u f r (λ k. t k ≡ true) (λ k. t k ≡ false) ran (λ x q k. sym (closure x true q k).1) (λ x q k. let c = closure x false q k in (c.0, sym c.1)))
+
+  -- ---- `any` over the numbers below n
+  any_range : (m k : ℕ) → list_any t (range_with_len k m) ≡ ltb (first_from t m k) (k + m)
+  unfolding first_from
+  any_range zero k = sym (le-ltb k (k + 0) (omega arith))
+  any_range (suc m) k = go (t k) (any_range m (k + 1))
+    where
+      go : (b : Bool) → list_any t (range_with_len (k + 1) m) ≡ ltb (first_from t m (k + 1)) (k + 1 + m) → (b || list_any t (range_with_len (k + 1) m)) ≡ ltb (cond b k (first_from t m (suc k))) (k + suc m)
+      go true e = sym (lt-ltb k (k + suc m) (omega arith))
+      go false e = let q : k + 1 + m ≡ k + suc m = omega arith in e ∙ ap (λ n. ltb (first_from t m (k + 1)) n) q ∙ ap (λ n. ltb (first_from t m n) (k + suc m)) (add-one k)
+
+  pub some_by_any : (n : ℕ) → list_any t (range_with_len 0 n) ≡ some t n
+  some_by_any n = let q : 0 + n ≡ n = omega arith in any_range n 0 ∙ ap (λ k. ltb (first_of t n) k) q
+
+  -- ---- `position` in a list: at each place of it, the test of the element is the test of the place
+  module _ {X : Type 0} (p : X → Bool) (xs : List X) (d : X) (n : ℕ) (long : length xs ≡ n) (agree : (i : ℕ) → i < n → p (get_or xs i d) ≡ t i) where
+    pub found_by_position : position p xs ≡ found_of t n
+    found_by_position =
+        let q : position_or_len p xs ≡ first_of t n =
+        position_or_len_is p xs (first_of t n) d (omega (arith, first_le t n))
+        (λ k h. agree k (omega (arith, first_le t n)) ∙ first_clear t n k h)
+        (λ h. agree (first_of t n) (omega arith) ∙ first_so t n (omega arith)) in
+        rw (q, long) refl
