@@ -28,7 +28,7 @@ returns-in-Distortion c =
 
 pub returns-in-Filter : goal.returns-in-Filter
 unfolding in_range_of
-returns-in-Filter c = rw (c.is_finite-in-Filter.ensures, c.is_finite.ensures, c.is_tangent.ensures, c.in-Filter.is)
+returns-in-Filter c = rw (c.is_finite-in-Filter.ensures, c.is_finite-in-Filter-2.ensures, c.is_tangent.ensures, c.in-Filter.is)
 
 pub returns-in-EqFilter : goal.returns-in-EqFilter
 unfolding in_range_of literal round of_bits
