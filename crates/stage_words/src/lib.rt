@@ -17,6 +17,9 @@ use std::array;
 // How many words a stage has.
 pub const WORDS: usize = 12;
 
+// It goes up with each change of what a word or a memory means.
+const LAYOUT_VERSION: u32 = 1;
+
 // A stage's kind and its numbers, and how many of its words are left without the zeros at their end.
 #[derive(Clone, Copy)]
 struct StageWords {
@@ -28,11 +31,11 @@ struct StageWords {
     length: usize,
 }
 
-// The version of the layout, which goes up with each change of what a word or a memory means.
+// The version of the layout.
 pub fn layout_version() -> u32
     ensures { result ≡ layout_version }
 {
-    1
+    LAYOUT_VERSION
 }
 
 fn is_short(word: u64) -> bool
@@ -68,26 +71,8 @@ fn single(word: u64) -> f32
     from_bits(short(word))
 }
 
-#[tactic(auto, unfolding(crate::specs::Words::is_stage))]
-fn is_stage(w: StageWords) -> bool
-    ensures { result ≡ is_stage w }
-{
-    match w.kind {
-        0 => (w.length <= 2) & is_level(w.a),
-        1 => (w.length <= 2) & is_short(w.a),
-        2 => (w.length <= 4) & ((w.a < 2) & (is_level(w.b) & is_short(w.c))),
-        3 => (w.length <= 5) & ((w.a < 4) & is_short(w.d)),
-        4 => (w.length <= 5) & ((w.a < 3) & is_level(w.c)),
-        5 => {
-            (w.length <= 5)
-                & ((is_short(w.a) & is_short(w.b)) & (is_short(w.c) & is_short(w.d)))
-        }
-        6 => (w.length <= 5) & (is_short(w.a) & (is_level(w.b) & is_short(w.c))),
-        _ => false,
-    }
-}
-
-// The stage that the words are. Where they are none, it does not matter which stage this is.
+// The stage that the words are, its kind by its place in `Stage`. Where they are no stage, it does not matter
+// which this is.
 #[tactic(auto, unfolding(crate::specs::Words::stage_of, crate::specs::Words::line_stage_of))]
 fn stage_of(w: StageWords) -> Stage
     ensures { result ≡ stage_of w }
@@ -126,6 +111,26 @@ fn stage_of(w: StageWords) -> Stage
             mix: single(w.c),
             owned: w.d as usize,
         },
+    }
+}
+
+// Whether the words are a stage: each number fits its type, and no word past the last that the kind uses is
+// other than 0. `stage_of` has the kinds' names beside their numbers.
+#[tactic(auto, unfolding(crate::specs::Words::is_stage))]
+fn is_stage(w: StageWords) -> bool
+    ensures { result ≡ is_stage w }
+{
+    match w.kind {
+        0 => (w.length <= 2) & is_level(w.a),
+        1 => (w.length <= 2) & is_short(w.a),
+        2 => (w.length <= 4) & ((w.a < 2) & (is_level(w.b) & is_short(w.c))),
+        3 => (w.length <= 5) & ((w.a < 4) & is_short(w.d)),
+        4 => (w.length <= 5) & ((w.a < 3) & is_level(w.c)),
+        5 => {
+            (w.length <= 5) & ((is_short(w.a) & is_short(w.b)) & (is_short(w.c) & is_short(w.d)))
+        }
+        6 => (w.length <= 5) & (is_short(w.a) & (is_level(w.b) & is_short(w.c))),
+        _ => false,
     }
 }
 

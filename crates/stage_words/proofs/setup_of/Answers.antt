@@ -38,7 +38,7 @@ returns c =
     let words = c.args.words.now in
     let items = c.from_fn.ensures.items in
     let filled : (k : ℕ) → k < places → get_or c.from_fn.result k unused ≡ slot_of words k =
-      λ k h. from_fn_at _ unused (slot_of words) c.from_fn.result _ (λ j y q call. let e : y ≡ slot_of words j = search rules in (e, λ i. record { 0 = call.met.1 i })) 0 places items.each k (omega arith) (omega arith) in
+    λ k h. from_fn_at _ unused (slot_of words) c.from_fn.result _ (λ j y q call. let e : y ≡ slot_of words j = search rules in (e, λ i. record { 0 = call.met.1 i })) 0 places items.each k (omega arith) (omega arith) in
     λ i. record {
       rate = c.args.rate;
       count = count_of words;
