@@ -13,7 +13,7 @@ use rounding::sqrt::sqrt_f64;
 
 // kira's `EqFilterKind`: the gain applies around a frequency (bell), around and below it (low shelf) or
 // around and above it (high shelf).
-#[derive(Clone, Copy)]
+#[derive(Clone, Copy, Debug, PartialEq, Eq)]
 pub enum EqFilterKind {
     Bell,
     LowShelf,

@@ -11,7 +11,7 @@ use rounding::narrow::as_f32;
 
 // kira's `FilterMode`: removes what is above the cutoff (low-pass), above and below it (band-pass),
 // below it (high-pass) or around it (notch).
-#[derive(Clone, Copy)]
+#[derive(Clone, Copy, Debug, PartialEq, Eq)]
 pub enum FilterMode {
     LowPass,
     BandPass,
