@@ -1,0 +1,3 @@
+pub mod Unrun
+pub mod Parts
+pub mod OneOutcome

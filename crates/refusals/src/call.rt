@@ -45,8 +45,7 @@ fn first_refusal(
     check_order(tops, samples.len() / 2, progress, order)
 }
 
-// All eleven checks: the first refusal that applies. `floats` is the length of the line
-// store.
+// All eleven checks: the first refusal that applies. `floats` is the length of the line store.
 pub fn check(
     setup: Setup,
     floats: usize,

@@ -13,8 +13,7 @@ fn first_bad(samples: &[f32], from: usize) -> Option<usize>
     requires { from ≤ length samples.now }
     ensures { result ≡ found_of (λ i. decide (bad_sample from samples.now i)) (length samples.now) }
 {
-    let at = samples[from..].iter().position(|x| !is_finite(*x))?;
-    Some(from + at)
+    (from..samples.len()).find(|i| !is_finite(samples[*i]))
 }
 
 // How many frames top stage 0 has run; 0 where there is no stage.

@@ -1,14 +1,14 @@
 -- The first number at which something is so, as std's `find`, `any` and `position` look for it: where the closure is the test. Assumes nothing.
 use mathlib.Core.Path.{◌≡◌, refl, ap, sym, ◌∙◌}
-use mathlib.Core.Bool.{Bool, true, false, cond, ◌||◌}
+use mathlib.Core.Bool.{Bool, true, false, cond, ◌&&◌, ◌||◌}
 use mathlib.Core.List.{List}
 use Prim.Native.Nat.{ℕ, zero, suc, ◌+◌, ◌≤◌, ◌<◌}
 use native.Mathlib.Omega.{arith}
 use native.Mathlib.Decide.{dec_lt}
 use native.Mathlib.Numerals.{add-one}
-use lib.Dec.{ltb}
+use lib.Dec.{ltb, leb}
 use lib.ListN.{length, get_or}
-use borrow.Author.Tests.{lt-ltb, le-ltb}
+use borrow.Author.Tests.{lt-ltb, le-ltb, le-leb, lt-leb}
 use denote.Param.Members.{Mut}
 use denote.Ref.{Bor}
 use Rattle.std.specs.Prelude.{Option, Some, None}
@@ -24,30 +24,40 @@ use Rattle.std.proofs.lemmas.List.Sums.{position_or_len_is}
 use Rattle.theory_tables.specs.First.{first_from, first_of, some, found_of}
 use Rattle.theory_tables.proofs.Firsts.{first_le, first_is, first_so, first_clear, some_hit, some_none}
 
-module _ (t : ℕ → Bool) where
-  -- ---- `find` over the numbers from a on, below which it is so nowhere
-  module _ {a : ℕ} (before : (j : ℕ) → j < a → t j ≡ false) where
-    nowhere : (k : ℕ) → ((j : ℕ) → a ≤ j → j < k → t j ≡ false) → (j : ℕ) → j < k → t j ≡ false
-    nowhere k f j h = go (dec_lt j a)
+-- ---- `find` over the numbers from s.start up to s.end: its answer r, what it ran, and what the closure answers
+module _ {F : Type 0} {g : Mut F (Bor ℕ × Unit {0}) Bool} (t : ℕ → Bool) (s u : Range ℕ) (f : F) (r : Option ℕ)
+    (ran : (xs : List ℕ) × (j : F) × YieldsThen nat_range_steps s xs r u × FoldsTo (λ p x q. CalledAt g p x false q) f xs j × MatchOption r ⊤ (λ x. (h : F) × CalledAt g j x true h))
+    (closure : (x : ℕ) (b : Bool) (q : F) → CalledAt g f x b q → (q ≡ f) × (b ≡ t x)) where
+  -- a test that is t from s.start on, and is passed nowhere before
+  module _ (test : ℕ → Bool) (from : (j : ℕ) → s.start ≤ j → test j ≡ t j) (before : (j : ℕ) → j < s.start → test j ≡ false) where
+    nowhere : (k : ℕ) → ((j : ℕ) → s.start ≤ j → j < k → t j ≡ false) → (j : ℕ) → j < k → test j ≡ false
+    nowhere k h j g = go (dec_lt j s.start)
       where
-        go : Dec (j < a) → t j ≡ false
-        go (yes g) = before j g
-        go (no g) = f j (omega arith) h
+        go : Dec (j < s.start) → test j ≡ false
+        go (yes q) = before j q
+        go (no q) = from j (omega arith) ∙ h j (omega arith) g
 
-    found_first : (n : ℕ) (r : Option ℕ)
-        → MatchOption r ((j : ℕ) → a ≤ j → j < n → t j ≡ false) (λ k. (a ≤ k) × (k < n) × (t k ≡ true) × ((j : ℕ) → a ≤ j → j < k → t j ≡ false))
-        → r ≡ found_of t n
-    found_first n None h = rw (some_none t n (nowhere n h)) refl
-    found_first n (Some k) (z, h, q, f) = rw (some_hit t n k h q, first_is t n k h (nowhere k f) q) refl
+    found : (r : Option ℕ)
+        → MatchOption r ((j : ℕ) → s.start ≤ j → j < s.end → t j ≡ false) (λ k. (s.start ≤ k) × (k < s.end) × (t k ≡ true) × ((j : ℕ) → s.start ≤ j → j < k → t j ≡ false))
+        → r ≡ found_of test s.end
+    found None h = rw (some_none test s.end (nowhere s.end h)) refl
+    found (Some k) (z, h, q, e) = let p = from k z ∙ q in rw (some_hit test s.end k h p, first_is test s.end k h (nowhere k e) p) refl
 
-  pub found_by_find : {F : Type 0} {g : Mut F (Bor ℕ × Unit {0}) Bool} (s u : Range ℕ) (f : F) (r : Option ℕ) → ((j : ℕ) → j < s.start → t j ≡ false)
-      → (xs : List ℕ) × (j : F) × YieldsThen nat_range_steps s xs r u × FoldsTo (λ p x q. CalledAt g p x false q) f xs j × MatchOption r ⊤ (λ x. (h : F) × CalledAt g j x true h)
-      → ((x : ℕ) (b : Bool) (q : F) → CalledAt g f x b q → (q ≡ f) × (b ≡ t x))
-      → r ≡ found_of t s.end
-  found_by_find s u f r before ran closure =
-      found_first before s.end r
-      (first_from_Range s u f r (λ k. t k ≡ true) (λ k. t k ≡ false) ran (λ x q k. sym (closure x true q k).1) (λ x q k. let c = closure x false q k in (c.0, sym c.1)))
+    found_on : r ≡ found_of test s.end
+    found_on = found r (first_from_Range s u f r (λ k. t k ≡ true) (λ k. t k ≡ false) ran (λ x q k. sym (closure x true q k).1) (λ x q k. let c = closure x false q k in (c.0, sym c.1)))
 
+  -- from 0 on
+  pub found_by_find : s.start ≡ 0 → r ≡ found_of t s.end
+  found_by_find e = found_on t (λ j h. refl) (λ j h. absurd (omega (arith, e, h)))
+
+  -- from any number on
+  pub found_from_find : r ≡ found_of (λ i. leb s.start i && t i) s.end
+  found_from_find =
+      found_on (λ i. leb s.start i && t i)
+      (λ j h. rw (le-leb s.start j h) refl)
+      (λ j h. rw (lt-leb s.start j h) refl)
+
+module _ (t : ℕ → Bool) where
   -- ---- `any` over the numbers below n
   any_range : (m k : ℕ) → list_any t (range_with_len k m) ≡ ltb (first_from t m k) (k + m)
   unfolding first_from

@@ -1,5 +1,5 @@
 -- `shape::depth` meets its contract: it counts the owners among the places before. Assumes nothing.
-use mathlib.Core.Path.{◌≡◌, refl, ap, ◌∙◌}
+use mathlib.Core.Path.{◌≡◌, ap, ◌∙◌}
 use mathlib.Core.Bool.{cond}
 use Prim.Native.Nat.{ℕ, zero, suc, ◌+◌}
 use native.Mathlib.Omega.{arith}
@@ -33,6 +33,6 @@ returns c =
     let e : 0 + c.args.i ≡ c.args.i = omega arith in
     let all = range_with_len 0 c.args.i in
     let counted : c.count.result ≡ count_by test all =
-        count_from_yields_List c.filter.result _ c.count.ensures.ran (YieldsList-from_filter _ test (YieldsList-from_range 0 c.args.i c.args.i c.filter.ensures.source (omega arith)) c.filter.ensures.closure (λ x b q k. search (rules, tests)))
-        ∙ length-filter test all in
+    count_from_yields_List c.filter.result _ c.count.ensures.ran (YieldsList-from_filter _ test (YieldsList-from_range 0 c.args.i c.args.i c.filter.ensures.source (omega arith)) c.filter.ensures.closure (λ x b q k. search (rules, tests)))
+    ∙ length-filter test all in
     omega (arith, counted, depth_more c.args.setup.now c.args.i c.args.i 0, ap (depth_of c.args.setup.now c.args.i) e)

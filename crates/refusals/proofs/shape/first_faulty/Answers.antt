@@ -1,6 +1,5 @@
 -- `shape::first_faulty` meets its contract: it looks at each number in turn. Assumes nothing.
-use mathlib.Core.Path.{ap, ◌∙◌}
-use native.Mathlib.Omega.{arith}
+use mathlib.Core.Path.{refl, ap, ◌∙◌}
 use Prim.Native.Nat.{ℕ}
 use borrow.Author.Rules.{rules}
 use borrow.Author.Tests.{tests}
@@ -13,5 +12,5 @@ use Rattle.refusals.proofs.shape.first_faulty.Goals as goal
 pub returns : goal.returns
 returns c =
     let test = λ (i : ℕ). decide (faulty c.args.setup.now i) in
-    found_by_find test _ _ _ c.find.result (λ j h. absurd (omega arith)) c.find.ensures.ran (λ x b q k. search (rules, tests))
+    found_by_find test _ _ _ c.find.result c.find.ensures.ran (λ x b q k. search (rules, tests)) refl
     ∙ ap (found_of test) c.used.ensures

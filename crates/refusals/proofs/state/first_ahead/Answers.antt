@@ -1,5 +1,5 @@
 -- `state::first_ahead` meets its contract: it looks at each number in turn. Assumes nothing.
-use native.Mathlib.Omega.{arith}
+use mathlib.Core.Path.{refl}
 use borrow.Author.Rules.{rules}
 use borrow.Author.Tests.{tests}
 use Rattle.theory_tables.specs.Condition.{decide}
@@ -8,4 +8,4 @@ use Rattle.refusals.specs.Refusals.{ahead_at}
 use Rattle.refusals.proofs.state.first_ahead.Goals as goal
 
 pub returns : goal.returns
-returns c = found_by_find (λ k. decide (ahead_at c.args.frames c.args.progress.now k)) _ _ _ c.find.result (λ j h. absurd (omega arith)) c.find.ensures.ran (λ x b q k. search (rules, tests))
+returns c = found_by_find (λ k. decide (ahead_at c.args.frames c.args.progress.now k)) _ _ _ c.find.result c.find.ensures.ran (λ x b q k. search (rules, tests)) refl
