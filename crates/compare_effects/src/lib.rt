@@ -12,20 +12,20 @@ ghost use Rattle.decibels.specs.Amplitude.{amplitude_of, eq_amplitude_of};
 
 pub mod effects;
 
-// `rounding::sqrt::sqrt_f32`, to compare with `f32::sqrt`.
+// `rounding::sqrt::sqrt`, to compare with `f32::sqrt`.
 #[unsafe(no_mangle)]
 pub extern "C" fn sedhavil_sqrt_f32(x: f32) -> f32
     ensures { result ≡ sqrt_of binary32 x }
 {
-    rounding::sqrt::sqrt_f32(x)
+    rounding::sqrt::sqrt(x)
 }
 
-// `rounding::sqrt::sqrt_f64`, to compare with `f64::sqrt`.
+// `rounding::sqrt::sqrt`, to compare with `f64::sqrt`.
 #[unsafe(no_mangle)]
 pub extern "C" fn sedhavil_sqrt_f64(x: f64) -> f64
     ensures { result ≡ sqrt_of binary64 x }
 {
-    rounding::sqrt::sqrt_f64(x)
+    rounding::sqrt::sqrt(x)
 }
 
 // `rounding::narrow::as_f32`, to compare with `as f32`.

@@ -9,7 +9,7 @@ use float::clamp::at_least_hundredth;
 use frame::Frame;
 use integrators::{Filtered, Integrators, Parts, Stepped, Weights, weigh};
 use rounding::narrow::as_f32;
-use rounding::sqrt::sqrt_f64;
+use rounding::sqrt::sqrt;
 
 // kira's `EqFilterKind`: the gain applies around a frequency (bell), around and below it (low shelf) or
 // around and above it (high shelf).
@@ -50,7 +50,7 @@ fn low_shelf(g: f64, q: f64, a: f64) -> Coefficients
     ensures { result ≡ low_shelf_of g q a }
 {
     let k = 1.0 / q;
-    let Weights { a1, a2, a3 } = weigh(g / sqrt_f64(a), k);
+    let Weights { a1, a2, a3 } = weigh(g / sqrt(a), k);
     Coefficients {
         a1,
         a2,
@@ -65,7 +65,7 @@ fn high_shelf(g: f64, q: f64, a: f64) -> Coefficients
     ensures { result ≡ high_shelf_of g q a }
 {
     let k = 1.0 / q;
-    let Weights { a1, a2, a3 } = weigh(g * sqrt_f64(a), k);
+    let Weights { a1, a2, a3 } = weigh(g * sqrt(a), k);
     Coefficients {
         a1,
         a2,

@@ -1,15 +1,11 @@
 -- Each public function's promise admits one outcome. Assumes nothing.
-use mathlib.Core.Path.{◌≡◌, sym, ◌∙◌}
+use mathlib.Core.Path.{sym, ◌∙◌}
 use denote.RattleType.{RattleType}
 use Rattle.float.specs.declared.floating.Floating.{Ghosts}
-use Rattle.float.proofs.Outcome.{Single}
+use Rattle.float.proofs.Outcome.{Single, Known}
 use Rattle.float.proofs.bits as bits
 use Rattle.float.proofs.clamp as clamp
 use Rattle.float.proofs.finite as finite
-
--- a thing is known by what the specifications see of it, as each width f has it by the laws `same_value` and `same_number` of `Floating`
-abbrev pub Known : {A N : Type 0} → (A → N) → Type 0
-Known {A} seen = (a b : A) → seen a ≡ seen b → a ≡ b
 
 pub to_bits_single : (T B : RattleType) (k l m n : _) (f : Ghosts T.Denot B.Denot) (o p q r s t u v w : _) → Known f.number → Single (bits.to_bits.Reads.Post T B k l m n f o p q r s t u v w)
 to_bits_single T B k l m n f o p q r s t u v w known κs a x x' e e' h h' = known x x' (h ∙ sym h')

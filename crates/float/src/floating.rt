@@ -1,7 +1,7 @@
 // f32 and f64 seen as one: what the code needs that Rust has at each of the two apart.
-ghost use Rattle.std.specs.Prelude.{◌≡◌, ◌*◌, ℕ, true, Float, refl, to_bits};
+ghost use Rattle.std.specs.Prelude.{◌≡◌, ◌*◌, ◌<◌, ℕ, true, Float, refl, to_bits};
 ghost use Rattle.std.specs.Float.{Format, NotNan, NotNanBits, binary32, binary64, nan};
-ghost use Rattle.std.specs.Float.Ieee.{eq, fits, hid, of_bits, ones, top};
+ghost use Rattle.std.specs.Float.Ieee.{eq, fits, hid, low, of_bits, ones, prec, top};
 ghost use Rattle.std.specs.Ordering.{float_partial_cmp};
 ghost use Rattle.float.specs.Literal.{literal};
 
@@ -17,12 +17,20 @@ pub trait Floating: Copy + PartialOrd {
 
     const NAN: Self;
 
-    // The bits of -0, of the infinity and of the NaN.
+    // The bits of -0, of the infinity and of the NaN, and the lowest bit of the exponent's field.
     const SIGN: u64;
 
     const INFINITY: u64;
 
     const NAN_BITS: Self::Bits;
+
+    const HIDDEN: u64;
+
+    // How many binary digits a number has, and how many of the smallest positive number lie behind
+    // the point.
+    const DIGITS: u64;
+
+    const PLACES: u64;
 
     ghost format: { Format };
 
@@ -43,6 +51,12 @@ pub trait Floating: Copy + PartialOrd {
 
     ghost NAN_BITS: { Self.Bits };
 
+    ghost HIDDEN: { ℕ };
+
+    ghost DIGITS: { ℕ };
+
+    ghost PLACES: { ℕ };
+
     fn own_bits(self) -> Self::Bits
         requires { NotNan (value self) }
         ensures bits { number result ≡ to_bits format (value self) }
@@ -55,6 +69,10 @@ pub trait Floating: Copy + PartialOrd {
     fn widen(bits: Self::Bits) -> u64
         ensures { result ≡ number bits };
 
+    fn narrow(bits: u64) -> Self::Bits
+        requires { bits < 2 * top format }
+        ensures { number result ≡ bits };
+
     ghost zero_is: { value ZERO ≡ literal format 0 1 };
 
     ghost one_is: { value ONE ≡ literal format 1 1 };
@@ -64,6 +82,12 @@ pub trait Floating: Copy + PartialOrd {
     ghost sign_is: { SIGN ≡ top format };
 
     ghost infinity_is: { INFINITY ≡ ones format * hid format };
+
+    ghost hidden_is: { HIDDEN ≡ hid format };
+
+    ghost digits_is: { DIGITS ≡ prec format };
+
+    ghost places_is: { PLACES ≡ low format };
 
     ghost nan_bits_is: { number NAN_BITS ≡ to_bits format nan };
 
@@ -91,6 +115,12 @@ impl Floating for f32 {
 
     const NAN_BITS: u32 = 0x7fc0_0000;
 
+    const HIDDEN: u64 = 0x80_0000;
+
+    const DIGITS: u64 = 24;
+
+    const PLACES: u64 = 149;
+
     ghost format = { binary32 };
 
     ghost value = { λ x. x };
@@ -109,6 +139,12 @@ impl Floating for f32 {
 
     ghost NAN_BITS = { to_bits binary32 nan };
 
+    ghost HIDDEN = { 0x80_0000 };
+
+    ghost DIGITS = { 24 };
+
+    ghost PLACES = { 149 };
+
     fn own_bits(self) -> u32 {
         f32::to_bits(self)
     }
@@ -121,6 +157,10 @@ impl Floating for f32 {
         bits as u64
     }
 
+    fn narrow(bits: u64) -> u32 {
+        bits as u32
+    }
+
     ghost zero_is = { refl };
 
     ghost one_is = { refl };
@@ -130,6 +170,12 @@ impl Floating for f32 {
     ghost sign_is = { refl };
 
     ghost infinity_is = { refl };
+
+    ghost hidden_is = { refl };
+
+    ghost digits_is = { refl };
+
+    ghost places_is = { refl };
 
     ghost nan_bits_is = { refl };
 
@@ -157,6 +203,12 @@ impl Floating for f64 {
 
     const NAN_BITS: u64 = 0x7ff8_0000_0000_0000;
 
+    const HIDDEN: u64 = 0x10_0000_0000_0000;
+
+    const DIGITS: u64 = 53;
+
+    const PLACES: u64 = 1074;
+
     ghost format = { binary64 };
 
     ghost value = { λ x. x };
@@ -175,6 +227,12 @@ impl Floating for f64 {
 
     ghost NAN_BITS = { to_bits binary64 nan };
 
+    ghost HIDDEN = { 0x10_0000_0000_0000 };
+
+    ghost DIGITS = { 53 };
+
+    ghost PLACES = { 1074 };
+
     fn own_bits(self) -> u64 {
         f64::to_bits(self)
     }
@@ -187,6 +245,10 @@ impl Floating for f64 {
         bits
     }
 
+    fn narrow(bits: u64) -> u64 {
+        bits
+    }
+
     ghost zero_is = { refl };
 
     ghost one_is = { refl };
@@ -196,6 +258,12 @@ impl Floating for f64 {
     ghost sign_is = { refl };
 
     ghost infinity_is = { refl };
+
+    ghost hidden_is = { refl };
+
+    ghost digits_is = { refl };
+
+    ghost places_is = { refl };
 
     ghost nan_bits_is = { refl };
 

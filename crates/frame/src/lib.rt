@@ -9,7 +9,7 @@ ghost use Rattle.frame.specs.Mix.{mix_of};
 ghost use Rattle.frame.specs.Panning.{panned_of};
 
 use float::clamp::{clamp_signed_unit, clamp_unit};
-use rounding::sqrt::sqrt_f32;
+use rounding::sqrt::sqrt;
 
 // kira's `Frame`: a left and a right sample, any two floats, NaN and infinities included.
 #[derive(Clone, Copy)]
@@ -109,8 +109,8 @@ impl Frame {
         ensures { result ≡ mix_of self dry mix }
     {
         let clamped = clamp_unit(mix);
-        let wet = self.mul(sqrt_f32(clamped));
-        wet.add(dry.mul(sqrt_f32(1.0 - clamped)))
+        let wet = self.mul(sqrt(clamped));
+        wet.add(dry.mul(sqrt(1.0 - clamped)))
     }
 
     // kira's `Frame::panned`, from -1 (left) to 1 (right). A panning equal to 0 (also -0) returns the
@@ -123,8 +123,8 @@ impl Frame {
         }
         let left_right_mix = (clamp_signed_unit(panning) + 1.0) * 0.5;
         let sides = Frame {
-            left: self.left * sqrt_f32(1.0 - left_right_mix),
-            right: self.right * sqrt_f32(left_right_mix),
+            left: self.left * sqrt(1.0 - left_right_mix),
+            right: self.right * sqrt(left_right_mix),
         };
         sides.mul(1.4142135)
     }

@@ -3,12 +3,12 @@ use crate::sample;
 use float::bits::{from_bits, to_bits};
 use float::clamp::{abs, at_least_hundredth, clamp_signed_unit, clamp_unit};
 use rounding::narrow::as_f32;
-use rounding::sqrt::{sqrt_f32, sqrt_f64};
+use rounding::sqrt::sqrt;
 
 pub(crate) fn sqrt_f32_agrees(i: usize) -> bool {
     if i < 102 {
         let x = from_bits(sample::SQRT_F32_INPUTS[i]);
-        return to_bits(sqrt_f32(x)) == sample::SQRT_F32_ANSWERS[i];
+        return to_bits(sqrt(x)) == sample::SQRT_F32_ANSWERS[i];
     }
     false
 }
@@ -16,7 +16,7 @@ pub(crate) fn sqrt_f32_agrees(i: usize) -> bool {
 pub(crate) fn sqrt_f64_agrees(i: usize) -> bool {
     if i < 102 {
         let x = from_bits(sample::SQRT_F64_INPUTS[i]);
-        return to_bits(sqrt_f64(x)) == sample::SQRT_F64_ANSWERS[i];
+        return to_bits(sqrt(x)) == sample::SQRT_F64_ANSWERS[i];
     }
     false
 }
