@@ -11,12 +11,6 @@ use stage::kind::Stage;
 use stage::setup::{empty, with};
 use std::io;
 
-// One sample, as the eight digits of its bits, on a line of its own.
-fn say(rt: &impl Print, sample: f32) -> io::Result<()> {
-    let bits = to_bits(sample);
-    println!(rt; "{bits:08x}")
-}
-
 fn main(rt: HostRuntime) -> io::Result<()> {
     let echo = Stage::Delay {
         frames: 1,
@@ -30,9 +24,10 @@ fn main(rt: HostRuntime) -> io::Result<()> {
     let fresh = start(setup, &mut store).memories;
     let answer = render(setup, &mut samples, fresh, &mut store, [0; PLACES]).answer;
     if number(answer) == 0 {
-        say(&rt, samples[0])?;
-        say(&rt, samples[2])?;
-        say(&rt, samples[4])?;
+        for left in samples.iter().step_by(2) {
+            let bits = to_bits(*left);
+            println!(rt; "{bits:08x}")?;
+        }
     }
     Ok(())
 }
