@@ -2,5 +2,5 @@
 // remembered positions are on them.
 #![tactic(auto)]
 
+pub mod layout;
 pub mod lines;
-pub mod starts;

@@ -6,14 +6,13 @@ ghost use Rattle.line_layout.specs.Lines.{floats_of, off_lines, lost_of};
 
 use memories::number_at;
 use reverb_tuning::{LINES, reverb_floats, reverb_line};
-use stage::kind::{Lines, Stage, holding_of};
+use stage::kind::{Lines, Stage};
 
 // How many floats the stage's lines have, without those of the stages that it owns.
 pub fn floats_of(rate: u32, stage: Stage) -> usize
     ensures { (result ≡ floats_of rate stage) × (result ≤ line_count * 0x1_0000_0000) }
 {
-    let holding = holding_of(stage);
-    let lines = holding.lines;
+    let lines = stage.holding().lines;
     match lines {
         Lines::NoLines => 0,
         Lines::ReverbLines => reverb_floats(rate),
@@ -25,14 +24,7 @@ pub fn floats_of(rate: u32, stage: Stage) -> usize
 fn reverb_lost(rate: u32, positions: &[usize]) -> bool
     ensures { result ≡ decide (off_lines (reverb_lines rate) positions.now) }
 {
-    let mut j = 0;
-    while j < LINES {
-        if reverb_line(j, rate) <= number_at(positions, j) {
-            return true;
-        }
-        j += 1;
-    }
-    false
+    (0..LINES).any(|j| reverb_line(j, rate) <= number_at(positions, j))
 }
 
 // Whether one of the place's remembered positions is not below its line's length, a delay's in frames. A
@@ -40,9 +32,7 @@ fn reverb_lost(rate: u32, positions: &[usize]) -> bool
 pub fn is_lost(rate: u32, stage: Stage, positions: &[usize]) -> bool
     ensures { result ≡ decide (lost_of rate stage positions.now) }
 {
-    let holding = holding_of(stage);
-    let lines = holding.lines;
-    match lines {
+    match stage.holding().lines {
         Lines::NoLines => false,
         Lines::ReverbLines => reverb_lost(rate, positions),
         Lines::FrameLine { frames } => frames as usize <= number_at(positions, 0),

@@ -7,7 +7,7 @@ use float::clamp::{abs_f32, clamp_signed_unit_f32};
 use frame::Frame;
 
 // kira's `DistortionKind`: a hard clip cuts a sample off at -1 and 1, a soft clip gives x / (1 + |x|).
-#[derive(Clone, Copy)]
+#[derive(Clone, Copy, Debug, PartialEq, Eq)]
 pub enum DistortionKind {
     HardClip,
     SoftClip,

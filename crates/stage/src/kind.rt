@@ -9,7 +9,7 @@ use plain_effects::distortion::DistortionKind;
 
 // A stage with its settings, in document 01's units: volume, drive, gain and a delay's feedback are whole
 // dB, and g is a tangent. Any numbers may be written here; `range::in_range` says which are accepted.
-#[derive(Clone, Copy)]
+#[derive(Clone, Copy, Debug, PartialEq)]
 pub enum Stage {
     VolumeControl {
         volume: i32,
@@ -50,7 +50,7 @@ pub enum Stage {
 }
 
 // The lines of a stage.
-#[derive(Clone, Copy)]
+#[derive(Clone, Copy, Debug, PartialEq, Eq)]
 pub enum Lines {
     NoLines,
     // A reverb's 24 lines, whose lengths follow from the rate.
@@ -60,39 +60,31 @@ pub enum Lines {
 }
 
 // What a stage has besides its settings: the `owned` stages after it, and its lines.
-#[derive(Clone, Copy)]
+#[derive(Clone, Copy, Debug, PartialEq, Eq)]
 pub struct Holding {
     pub owned: usize,
     pub lines: Lines,
 }
 
-// What a stage has besides its settings. Only a reverb and a delay have lines, and only a delay owns
-// stages.
-pub fn holding_of(stage: Stage) -> Holding
-    ensures { result ≡ holding_of stage }
-{
-    match stage {
-        Stage::Reverb {
-            feedback: _,
-            damping: _,
-            stereo_width: _,
-            mix: _,
-        } => Holding {
-            owned: 0,
-            lines: Lines::ReverbLines,
-        },
-        Stage::Delay {
-            frames,
-            feedback: _,
-            mix: _,
-            owned,
-        } => Holding {
-            owned,
-            lines: Lines::FrameLine { frames },
-        },
-        _ => Holding {
-            owned: 0,
-            lines: Lines::NoLines,
-        },
+impl Stage {
+    // What a stage has besides its settings. Only a reverb and a delay have lines, and only a delay owns
+    // stages.
+    pub fn holding(self) -> Holding
+        ensures { result ≡ holding_of self }
+    {
+        match self {
+            Stage::Reverb { .. } => Holding {
+                owned: 0,
+                lines: Lines::ReverbLines,
+            },
+            Stage::Delay { frames, owned, .. } => Holding {
+                owned,
+                lines: Lines::FrameLine { frames },
+            },
+            _ => Holding {
+                owned: 0,
+                lines: Lines::NoLines,
+            },
+        }
     }
 }

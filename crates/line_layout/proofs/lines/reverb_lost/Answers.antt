@@ -1,31 +1,31 @@
--- `lines::reverb_lost` meets its contract: it has looked at the lines below j. The measure is line_count - j. Assumes nothing.
-use mathlib.Core.Path.{sym}
-use mathlib.Core.Bool.{Bool}
+-- `lines::reverb_lost` meets its contract: some line, or none, has the position off it. Assumes nothing.
+use mathlib.Core.Path.{◌≡◌, sym}
+use mathlib.Core.Bool.{Bool, true, false}
 use mathlib.Core.List.{List}
-use Prim.Native.Nat.{ℕ}
-use native.Mathlib.Omega.{arith}
+use Prim.Native.Nat.{ℕ, ◌<◌}
 use lib.Dec.{leb}
-use lib.ListN.{length, get_or}
-use borrow.Author.Tests.{le-leb}
-use Rattle.reverb_tuning.specs.Tuning.{reverb_lines}
+use lib.ListN.{get_or}
+use Rattle.std.proofs.iter.runs.Sources.{ranges}
+use Rattle.std.proofs.Common.{rules}
+use Rattle.std.specs.Bool.{MatchBool}
+use Rattle.reverb_tuning.specs.Tuning.{line_count, reverb_lines}
 use Rattle.reverb_tuning.proofs.Tunings.{lines_length}
+use Rattle.theory_tables.specs.First.{some}
 use Rattle.theory_tables.proofs.Firsts.{some_hit, some_none}
 use Rattle.line_layout.proofs.lines.reverb_lost.Goals as goal
+
+-- what is told of the numbers below n is `some`
+some_told : (t : ℕ → Bool) (n : ℕ) (r : Bool) → MatchBool r ((j : ℕ) × (j < n) × (t j ≡ true)) ((j : ℕ) → j < n → t j ≡ false) → r ≡ some t n
+some_told t n true told = sym (some_hit t n told.0 told.1 told.2)
+some_told t n false told = sym (some_none t n told)
 
 -- position j is not on line j
 abbrev off : List ℕ → List ℕ → ℕ → Bool
 off lines positions j = leb (get_or lines j 0) (get_or positions j 0)
 
-pub returns-then-reverb_line-number_at : goal.returns-then-reverb_line-number_at
-returns-then-reverb_line-number_at c =
-    let a = c.args in
-    let j = c.loop-j.j in
-    let lines = reverb_lines a.rate in
-    let positions = a.positions.now in
-    sym (some_hit (off lines positions) (length lines) j (omega (arith, lines_length a.rate)) (le-leb (get_or lines j 0) (get_or positions j 0) (omega (arith, c.reverb_line.ensures, c.number_at.ensures))))
-
 pub returns : goal.returns
 returns c =
-    let a = c.args in
-    let lines = reverb_lines a.rate in
-    sym (some_none (off lines a.positions.now) (length lines) (λ k h. c.loop-j.invariant.clear k (omega (arith, lines_length a.rate))))
+    let lines = reverb_lines c.args.rate in
+    let positions = c.args.positions.now in
+    let told : MatchBool c.any.result ((j : ℕ) × (j < line_count) × (off lines positions j ≡ true)) ((j : ℕ) → j < line_count → off lines positions j ≡ false) = search (rules, ranges) in
+    rw (lines_length c.args.rate) (some_told (off lines positions) line_count _ told)
