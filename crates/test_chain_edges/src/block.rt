@@ -1,7 +1,6 @@
 // Refusals 6 to 11: memories, samples, progress and the order.
 use crate::case::{Case, chain_of, counts, delay, volume};
 use memories::PLACE_POSITIONS;
-use stage::setup::with;
 use std::io;
 
 // A delay of 2 frames at list place 1 that remembers this position.
@@ -16,7 +15,7 @@ pub(crate) fn positions(rt: &impl Print) -> io::Result<()> {
 
 // So many volume controls at 0 dB.
 fn volumes(count: usize) -> Case<'static> {
-    Case::of((0..count).fold(chain_of(&[]), |setup, _| with(setup, volume(0))))
+    Case::of((0..count).fold(chain_of(&[]), |setup, _| setup.with(volume(0))))
 }
 
 pub(crate) fn lengths(rt: &impl Print) -> io::Result<()> {

@@ -1,9 +1,9 @@
 // What the cases share: stages, chains, a call, and the line that is written for its answer.
-use answer::{Answer, number, place};
+use answer::Answer;
 use chain::run::run;
 use memories::{Memories, PLACES, zero};
 use stage::kind::Stage;
-use stage::setup::{Setup, empty, with};
+use stage::setup::Setup;
 use std::io;
 
 pub(crate) fn volume(volume: i32) -> Stage {
@@ -23,7 +23,7 @@ pub(crate) fn delay(frames: u32, owned: usize) -> Stage {
 pub(crate) fn chain_of(stages: &[Stage]) -> Setup {
     stages
         .iter()
-        .fold(empty(44100), |setup, stage| with(setup, *stage))
+        .fold(Setup::empty(44100), |setup, stage| setup.with(*stage))
 }
 
 pub(crate) fn counts(first: usize, second: usize) -> [usize; PLACES] {
@@ -34,8 +34,10 @@ pub(crate) fn counts(first: usize, second: usize) -> [usize; PLACES] {
 }
 
 pub(crate) fn say(rt: &impl Print, name: &str, answer: Answer) -> io::Result<()> {
-    let number = number(answer);
-    let place = place(answer);
+    let (number, place) = match answer {
+        Ok(()) => (0, 0),
+        Err(refusal) => (refusal.number(), refusal.place()),
+    };
     println!(rt; "{name} {number} {place}")
 }
 
@@ -74,7 +76,7 @@ impl Case<'_> {
             self.progress,
             self.order,
         );
-        say(rt, name, outcome.answer)
+        say(rt, name, outcome.map(|_| ()))
     }
 
     // Over a store of 64 floats.

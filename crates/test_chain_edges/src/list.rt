@@ -3,7 +3,7 @@ use crate::case::{Case, chain_of, delay, volume};
 use filters::eq_filter::EqFilterKind;
 use plain_effects::distortion::DistortionKind;
 use stage::kind::Stage;
-use stage::setup::{Setup, empty};
+use stage::setup::Setup;
 use std::io;
 
 fn eq_filter(gain: i32, q: f64) -> Stage {
@@ -45,7 +45,7 @@ pub(crate) fn rates(rt: &impl Print) -> io::Result<()> {
         ("rate_192000", 192000),
         ("rate_192001", 192001),
     ] {
-        on_list(rt, name, empty(rate))?;
+        on_list(rt, name, Setup::empty(rate))?;
     }
     Ok(())
 }

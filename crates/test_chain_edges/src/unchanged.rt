@@ -1,16 +1,16 @@
 // What a call leaves, accepted or refused. Floats are written as bits: 1 is 1065353216, one half 1056964608.
 use crate::case::{delay, say};
 use chain::render::render;
-use chain::run::run;
+use chain::run::{Outcome, run};
 use float::bits::to_bits;
 use fresh_start::start::start;
 use memories::{PLACES, zero};
-use stage::setup::{Setup, empty, with};
+use stage::setup::Setup;
 use std::io;
 
 // A chain of one delay.
 fn alone(rate: u32, frames: u32) -> Setup {
-    with(empty(rate), delay(frames, 0))
+    Setup::empty(rate).with(delay(frames, 0))
 }
 
 fn say_number(rt: &impl Print, name: &str, n: usize) -> io::Result<()> {
@@ -26,19 +26,24 @@ fn say_bits(rt: &impl Print, name: &str, x: f32) -> io::Result<()> {
 fn on_delay(rt: &impl Print, order: &[usize]) -> io::Result<()> {
     let mut samples = [0.5; 2];
     let mut store = [1.0; 4];
+    let fresh = Outcome {
+        memories: zero(),
+        progress: [0; PLACES],
+    };
     let outcome = run(
         alone(44100, 2),
         &mut samples,
-        zero(),
+        fresh.memories,
         &mut store,
-        [0; PLACES],
+        fresh.progress,
         order,
     );
-    say(rt, "answer", outcome.answer)?;
+    say(rt, "answer", outcome.map(|_| ()))?;
+    let left = outcome.unwrap_or(fresh);
     say_bits(rt, "sample", samples[0])?;
     say_bits(rt, "store", store[0])?;
-    say_number(rt, "position", outcome.memories.positions[0])?;
-    say_number(rt, "progress", outcome.progress[0])
+    say_number(rt, "position", left.memories.positions[0])?;
+    say_number(rt, "progress", left.progress[0])
 }
 
 // A step past the block's end is refused, and one in it is taken.
@@ -65,14 +70,14 @@ pub(crate) fn starts(rt: &impl Print) -> io::Result<()> {
 // P12: a delay of 1 frame, feedback 0 dB, mix 1.
 pub(crate) fn rendered(rt: &impl Print) -> io::Result<()> {
     let mut samples = [1.0, 0.0, 0.0, 0.0, 0.0, 0.0];
-    let outcome = render(
+    let rendered = render(
         alone(44100, 1),
         &mut samples,
         zero(),
         &mut [0.0; 2],
         [0; PLACES],
     );
-    say(rt, "render", outcome.answer)?;
+    say(rt, "render", rendered.map(|_| ()))?;
     say_bits(rt, "left_0", samples[0])?;
     say_bits(rt, "left_1", samples[2])?;
     say_bits(rt, "left_2", samples[4])

@@ -6,7 +6,7 @@
 
 ghost use Rattle.std.specs.Prelude.{◌≤◌, length};
 
-use answer::{Answer, is_accepted};
+use answer::Refusal;
 use chain::render::render;
 use fresh_start::start::start;
 use memories::{Memories, PLACES};
@@ -26,13 +26,19 @@ const BLOCK_SAMPLES: usize = 8192;
 #[derive(Clone, Copy)]
 enum Stop {
     Header(HeaderRefusal),
-    Chain(Answer),
+    Chain(Refusal),
     Write,
 }
 
 impl From<HeaderRefusal> for Stop {
     fn from(refusal: HeaderRefusal) -> Stop {
         Stop::Header(refusal)
+    }
+}
+
+impl From<Refusal> for Stop {
+    fn from(refusal: Refusal) -> Stop {
+        Stop::Chain(refusal)
     }
 }
 
@@ -47,17 +53,9 @@ impl Stop {
     fn number(self) -> Option<u32> {
         match self {
             Stop::Header(refusal) => Some(refusal.number()),
-            Stop::Chain(answer) => Some(answer::number(answer)),
+            Stop::Chain(refusal) => Some(refusal.number()),
             Stop::Write => None,
         }
-    }
-}
-
-fn accepted(answer: Answer) -> Result<(), Stop> {
-    if is_accepted(answer) {
-        Ok(())
-    } else {
-        Err(Stop::Chain(answer))
     }
 }
 
@@ -96,8 +94,7 @@ fn block(
         memories,
         store,
         [0; PLACES],
-    );
-    accepted(outcome.answer)?;
+    )?;
     frames_out(samples, bytes);
     rt.write_all(&bytes[..4 * frames])?;
     if got < bytes.len() {
@@ -136,7 +133,7 @@ fn pass(
     let Header { rate, size } = wav_header::read(&head[..n], highest)?;
     let setup = Setup { rate, ..setup };
     let started = start(setup, store);
-    accepted(started.answer)?;
+    started.answer?;
     rt.write_all(&head)?;
     blocks(rt, setup, started.memories, size as usize, store)
 }
