@@ -11,18 +11,17 @@ use crate::chain::check_chain;
 use crate::samples::check_samples;
 use crate::state::check_state;
 use answer::Answer;
-use line_layout::starts::starts_of;
-use memories::{ALL_POSITIONS, PLACES, number_at};
+use line_layout::layout::Layout;
+use memories::{ALL_POSITIONS, PLACES};
 use order_entries::check_order;
-use stage::setup::{ENDS, Setup, used};
-use top_stages::{Tops, tops_of};
+use stage::setup::Setup;
+use top_stages::Tops;
 
-// What the checks give: the answer, where lines start (line_layout::starts::starts_of), and the top stages
-// (top_stages::tops_of).
-#[derive(Clone, Copy)]
+// What the checks give: the answer, the chain with where its lines lie, and the top stages.
+#[derive(Clone, Copy, Debug, PartialEq)]
 pub struct Checked {
     pub answer: Answer,
-    pub starts: [usize; ENDS],
+    pub layout: Layout,
     pub tops: Tops,
 }
 
@@ -55,17 +54,17 @@ pub fn check(
     order: &[usize],
 ) -> Checked
     ensures { (result.answer ≡ answer_of setup floats samples.now positions.now progress.now order.now)
-        × (result.starts ≡ starts_of setup) × (result.tops ≡ tops_record setup) }
+        × (result.layout.setup ≡ setup) × (result.layout.starts ≡ starts_of setup) × (result.tops ≡ tops_record setup) }
 {
-    let starts = starts_of(setup);
-    let needed = number_at(&starts, used(setup.count));
-    let tops = tops_of(setup);
+    let layout = Layout::of(setup);
+    let needed = layout.starts[setup.used()];
+    let tops = Tops::of(setup);
     let answer = first_refusal(
         &setup, needed, tops.n, floats, samples, positions, progress, order,
     );
     Checked {
         answer,
-        starts,
+        layout,
         tops,
     }
 }

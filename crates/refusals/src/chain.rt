@@ -8,20 +8,20 @@ ghost use Rattle.refusals.specs.Refusals.{out_of_range, chain_answer};
 use crate::shape::first_faulty;
 use answer::{Answer, Refusal};
 use memories::PLACES;
-use stage::range::in_range;
-use stage::setup::{Setup, used};
+use stage::setup::Setup;
 
 // The first place whose stage has a setting out of range.
 fn first_out_of_range(setup: &Setup) -> Option<usize>
     ensures { result ≡ found_of (λ i. decide (out_of_range setup.now i)) (used_of setup.now) }
 {
-    setup.slots[..used(setup.count)]
+    setup
+        .stages()
         .iter()
-        .position(|slot| !in_range(slot.stage))
+        .position(|slot| !slot.stage.in_range())
 }
 
 // Checks 1 to 5: the first refusal that applies. `needed` is how many floats the stages need
-// (line_layout::starts::needed), `floats` how many the store has.
+// (line_layout::layout::needed), `floats` how many the store has.
 pub fn check_chain(setup: &Setup, needed: usize, floats: usize) -> Answer
     ensures { result ≡ chain_answer setup.now needed floats }
 {

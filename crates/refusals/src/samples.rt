@@ -24,7 +24,7 @@ fn run_by_first(tops: usize, progress: &[usize; PLACES]) -> usize
 }
 
 // Check 10: `Sample` with the place of the first sample that is not finite, in a frame that top stage 0 has
-// not run. `tops` is how many top stages there are (top_stages::tops_of).
+// not run. `tops` is how many top stages there are (top_stages::Tops::of).
 pub fn check_samples(tops: usize, samples: &[f32], progress: &[usize; PLACES]) -> Answer
     ensures { result ≡ sample_answer tops samples.now progress.now }
 {

@@ -7,15 +7,14 @@ ghost use Rattle.stage.specs.Holding.{owned_of};
 ghost use Rattle.stage.specs.Setup.{stage_at, used_of};
 ghost use Rattle.refusals.specs.Shape.{owns, outgrows, depth_of, faulty};
 
-use stage::kind::holding_of;
-use stage::setup::{Setup, used};
+use stage::setup::Setup;
 
 // How many stages after it the stage at i owns.
 fn owned_at(setup: &Setup, i: usize) -> usize
     requires { i < places }
     ensures { result ≡ owned_of (stage_at setup.now i) }
 {
-    holding_of(setup.slots[i].stage).owned
+    setup.slots[i].stage.holding().owned
 }
 
 // Whether the stage at j owns the stage at i.
@@ -56,14 +55,12 @@ fn is_faulty(setup: &Setup, i: usize) -> bool
     requires { i < used_of setup.now }
     ensures { result ≡ decide (faulty setup.now i) }
 {
-    used(setup.count) - i <= owned_at(setup, i)
-        || outgrows_an_owner(setup, i)
-        || 3 < depth(setup, i)
+    setup.used() - i <= owned_at(setup, i) || outgrows_an_owner(setup, i) || 3 < depth(setup, i)
 }
 
 // The first stage that has a wrong shape or is too deep.
 pub(crate) fn first_faulty(setup: &Setup) -> Option<usize>
     ensures { result ≡ found_of (λ i. decide (faulty setup.now i)) (used_of setup.now) }
 {
-    (0..used(setup.count)).find(|i| is_faulty(setup, *i))
+    (0..setup.used()).find(|i| is_faulty(setup, *i))
 }

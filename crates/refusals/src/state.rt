@@ -9,7 +9,7 @@ ghost use Rattle.refusals.specs.Refusals.{lost_at, ahead_at, state_answer};
 use answer::{Answer, Refusal};
 use line_layout::lines::is_lost;
 use memories::{ALL_POSITIONS, PLACE_POSITIONS, PLACES, number_at};
-use stage::setup::{Setup, used};
+use stage::setup::Setup;
 
 // Whether a remembered position of the stage at i is not on its line.
 fn is_lost_at(setup: &Setup, positions: &[usize; ALL_POSITIONS], i: usize) -> bool
@@ -28,7 +28,7 @@ fn is_lost_at(setup: &Setup, positions: &[usize; ALL_POSITIONS], i: usize) -> bo
 fn first_lost(setup: &Setup, positions: &[usize; ALL_POSITIONS]) -> Option<usize>
     ensures { result ≡ found_of (λ i. decide (lost_at setup.now positions.now i)) (used_of setup.now) }
 {
-    (0..used(setup.count)).find(|i| is_lost_at(setup, positions, *i))
+    (0..setup.used()).find(|i| is_lost_at(setup, positions, *i))
 }
 
 // Whether top stage k is past the last frame, or ahead of the top stage before it.
@@ -47,7 +47,7 @@ fn first_ahead(tops: usize, frames: usize, progress: &[usize]) -> Option<usize>
 }
 
 // Checks 6 to 9: the first refusal that applies. `tops` is how many top stages there are
-// (top_stages::tops_of), `samples` how many samples the block has.
+// (top_stages::Tops::of), `samples` how many samples the block has.
 pub fn check_state(
     setup: &Setup,
     tops: usize,

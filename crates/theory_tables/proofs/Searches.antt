@@ -20,9 +20,10 @@ use Rattle.std.specs.Option.{MatchOption}
 use Rattle.std.specs.declared.ops.Range.{Range}
 use Rattle.std.proofs.iter.Yields.{nat_range_steps}
 use Rattle.std.proofs.lemmas.Iterator.{first_from_Range}
-use Rattle.std.proofs.lemmas.List.Sums.{position_or_len_is}
+use Rattle.std.proofs.lemmas.List.{get_or_past}
+use Rattle.std.proofs.lemmas.List.Sums.{passes_at_first, fails_before_first}
 use Rattle.theory_tables.specs.First.{first_from, first_of, some, found_of}
-use Rattle.theory_tables.proofs.Firsts.{first_le, first_is, first_so, first_clear, some_hit, some_none}
+use Rattle.theory_tables.proofs.Firsts.{first_is, some_hit, some_none}
 
 -- ---- `find` over the numbers from s.start up to s.end: its answer r, what it ran, and what the closure answers
 module _ {F : Type 0} {g : Mut F (Bor ℕ × Unit {0}) Bool} (t : ℕ → Bool) (s u : Range ℕ) (f : F) (r : Option ℕ)
@@ -71,12 +72,27 @@ module _ (t : ℕ → Bool) where
   pub some_by_any : (n : ℕ) → list_any t (range_with_len 0 n) ≡ some t n
   some_by_any n = let q : 0 + n ≡ n = omega arith in any_range n 0 ∙ ap (λ k. ltb (first_of t n) k) q
 
-  -- ---- `position` in a list: at each place of it, the test of the element is the test of the place
-  module _ {X : Type 0} (p : X → Bool) (xs : List X) (d : X) (n : ℕ) (long : length xs ≡ n) (agree : (i : ℕ) → i < n → p (get_or xs i d) ≡ t i) where
+  -- ---- `position` in a list: at each place the test of the element is the test of the place, and past the list's end neither is passed
+  module _ {X : Type 0} (p : X → Bool) (xs : List X) (d : X) (n : ℕ) (short : length xs ≤ n) (agree : (i : ℕ) → i < n → p (get_or xs i d) ≡ t i) (past : p d ≡ false) where
+    missed : ((i : ℕ) → i < length xs → p (get_or xs i d) ≡ false) → (i : ℕ) → i < n → t i ≡ false
+    missed f i h = sym (agree i h) ∙ go (dec_lt i (length xs))
+      where
+        go : Dec (i < length xs) → p (get_or xs i d) ≡ false
+        go (yes g) = f i g
+        go (no g) = ap p (get_or_past xs i d (omega arith)) ∙ past
+
     pub found_by_position : position p xs ≡ found_of t n
-    found_by_position =
-        let q : position_or_len p xs ≡ first_of t n =
-        position_or_len_is p xs (first_of t n) d (omega (arith, first_le t n))
-        (λ k h. agree k (omega (arith, first_le t n)) ∙ first_clear t n k h)
-        (λ h. agree (first_of t n) (omega arith) ∙ first_so t n (omega arith)) in
-        rw (q, long) refl
+    found_by_position = go (dec_lt (position_or_len p xs) (length xs))
+      where
+        k : ℕ
+        k = position_or_len p xs
+
+        go : Dec (k < length xs) → position p xs ≡ found_of t n
+        go (yes h) =
+            let hit : t k ≡ true = sym (agree k (omega arith)) ∙ passes_at_first p xs d h in
+            rw (
+              lt-ltb k (length xs) h,
+              some_hit t n k (omega arith) hit,
+              first_is t n k (omega arith) (λ j g. sym (agree j (omega arith)) ∙ fails_before_first p xs j d g) hit,
+            ) refl
+        go (no h) = rw (le-ltb k (length xs) (omega arith), some_none t n (missed (λ i g. fails_before_first p xs i d (omega arith)))) refl

@@ -1,9 +1,9 @@
 -- `chain::first_out_of_range` meets its contract: it looks at each used place in turn. Assumes nothing.
 use mathlib.Core.Path.{refl, ◌∙◌}
 use mathlib.Core.Bool.{not}
-use Prim.Native.Nat.{◌<◌}
 use lib.ListN.{take}
 use lib.Seq.{get_or-take}
+use Rattle.std.proofs.lemmas.List.{length-take}
 use native.Mathlib.Omega.{arith}
 use borrow.Author.Rules.{rules}
 use borrow.Author.Tests.{tests}
@@ -18,9 +18,10 @@ use Rattle.refusals.specs.Refusals.{out_of_range}
 use Rattle.refusals.proofs.chain.first_out_of_range.Goals as goal
 
 pub returns : goal.returns
+unfolding in_range_of
 returns c =
     let setup = c.args.setup.now in
-    let used = take c.used.result setup.slots in
+    let stages = take (used_of setup) setup.slots in
     let test = λ (slot : Slot). not (in_range_of slot.stage) in
-    position_from_yields_List test _ _ c.position.result c.position.ensures.ran (YieldsList-from_slice used c.iter.ensures.rest) (λ x b q k. search (rules, tests))
-    ∙ found_by_position (λ i. decide (out_of_range setup i)) test used unused (used_of setup) (search rules) (λ i h. let less : i < c.used.result = omega (arith, c.used.ensures, h) in rw get_or-take refl)
+    position_from_yields_List test _ _ c.position.result c.position.ensures.ran (YieldsList-from_slice stages (c.iter.ensures.rest ∙ c.stages.ensures)) (λ x b q k. search (rules, tests))
+    ∙ found_by_position (λ i. decide (out_of_range setup i)) test stages unused (used_of setup) (omega (arith, length-take (used_of setup) setup.slots)) (λ i h. rw get_or-take refl) refl
