@@ -1,7 +1,7 @@
 -- A stage's lines: how long they are, how many floats they have, and whether positions are on them. Definitions only.
-use Rattle.std.specs.Prelude.{List, [], ◌∷◌, ℕ, ◌*◌, length, get_or}
+use Rattle.std.specs.Prelude.{List, [], ◌∷◌, ℕ, ◌*◌, length, get_or, sum}
 use Rattle.theory_tables.specs.Condition.{Condition, at_most, among}
-use Rattle.reverb_tuning.specs.Tuning.{reverb_lines, total}
+use Rattle.reverb_tuning.specs.Tuning.{reverb_lines}
 use Rattle.stage.specs.declared.kind.Stage.{Stage}
 use Rattle.stage.specs.declared.kind.Lines.{Lines}
 use Rattle.stage.specs.declared.kind.Lines.TheVariants.{NoLines, ReverbLines, FrameLine}
@@ -26,7 +26,7 @@ lines_of rate stage = lengths_of rate (holding_of stage).lines
 -- how many floats all of a stage's lines have
 unfoldable pub floats_of : ℕ → Stage → ℕ
 unfolding holding_of lengths_of element_floats
-floats_of rate stage = element_floats (holding_of stage).lines * total (lines_of rate stage)
+floats_of rate stage = element_floats (holding_of stage).lines * sum (lines_of rate stage)
 
 -- "a remembered position (one per line, a delay's in frames) not below its line's length"
 abbrev pub off_lines : List ℕ → List ℕ → Condition

@@ -34,7 +34,7 @@ pub const ALL_POSITIONS: usize = PLACES * PLACE_POSITIONS;
 pub const ALL_FLOATS: usize = PLACES * PLACE_FLOATS;
 
 // What all stages remember, place after place. A call takes memories by value and gives them back.
-#[derive(Clone, Copy)]
+#[derive(Clone, Copy, Debug, PartialEq)]
 pub struct Memories {
     pub positions: [usize; ALL_POSITIONS],
     pub floats: [f32; ALL_FLOATS],
@@ -47,6 +47,14 @@ pub fn zero() -> Memories
     Memories {
         positions: [0; ALL_POSITIONS],
         floats: [0.0; ALL_FLOATS],
+    }
+}
+
+impl Default for Memories {
+    fn default() -> Self
+        ensures { result ≡ zero_memories }
+    {
+        zero()
     }
 }
 
@@ -66,18 +74,15 @@ pub fn recall(floats: &[f32]) -> Integrators
 pub fn keep(filtered: Filtered, floats: &mut [f32]) -> Frame
     ensures { (result ≡ filtered.output) × (floats.new ≡ remember filtered.after floats.old) }
 {
-    let after = filtered.after;
+    let Filtered { output, after } = filtered;
     put_frame(floats, IC1EQ, after.ic1eq);
     put_frame(floats, IC2EQ, after.ic2eq);
-    filtered.output
+    output
 }
 
 // The number at place i of a list (positions, progress or starts), and 0 past its end.
 pub fn number_at(numbers: &[usize], i: usize) -> usize
     ensures { result ≡ get_or numbers.now i 0 }
 {
-    if i < numbers.len() {
-        return numbers[i];
-    }
-    0
+    numbers.get(i).copied().unwrap_or(0)
 }

@@ -52,7 +52,7 @@ pub fn may_run(tops: usize, frames: usize, progress: &[usize], k: usize) -> Resu
 
 // Check 11: `Entry` with the place of the first entry that breaks a rule. Progress is counted entry by entry,
 // and the entries still unread are handed on as a stretch starting mid-way. `tops` is how many top stages
-// there are (top_stages::tops_of), `frames` how many frames the block has.
+// there are (top_stages::Tops::of), `frames` how many frames the block has.
 pub fn check_order(
     tops: usize,
     frames: usize,

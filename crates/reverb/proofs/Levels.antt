@@ -6,11 +6,12 @@ use Prim.Native.Nat.{ℕ}
 use lib.Dec.{leb}
 use lib.Ieee.{Float, binary32, add, mul}
 use lib.ListN.{length, take, drop}
+use Rattle.std.specs.List.{sum}
 use Rattle.float.specs.Literal.{literal}
 use Rattle.frame.specs.declared.Frame.{Frame}
 use Rattle.frame.specs.Mix.{mix_of}
 use Rattle.line.specs.Held.{Held, front, back, joined, Ran, ran}
-use Rattle.reverb_tuning.specs.Tuning.{comb_count, line_count, reverb_lines, total, reverb_floats}
+use Rattle.reverb_tuning.specs.Tuning.{comb_count, line_count, reverb_lines, reverb_floats}
 use Rattle.reverb.specs.Reverb.{Heard, heard, comb_of, pass_of, lines_in_turn, side_of, width_of, reverbed, reverb_of}
 
 abbrev pub mono : Frame → Float
@@ -35,8 +36,8 @@ side_is lines feedback damping x h = refl
 module _ (rate : ℕ) (feedback damping width mix : Float) (r : Ran) where
   pub reverbed_is : reverbed rate feedback damping width mix r
       ≡ sides width mix r.frame
-      (side_of (take 12 (reverb_lines rate)) feedback damping (mono r.frame) (front (total (take 12 (reverb_lines rate))) 12 8 r.held))
-      (side_of (drop 12 (reverb_lines rate)) feedback damping (mono r.frame) (back (total (take 12 (reverb_lines rate))) 12 8 r.held))
+      (side_of (take 12 (reverb_lines rate)) feedback damping (mono r.frame) (front (sum (take 12 (reverb_lines rate))) 12 8 r.held))
+      (side_of (drop 12 (reverb_lines rate)) feedback damping (mono r.frame) (back (sum (take 12 (reverb_lines rate))) 12 8 r.held))
   unfolding reverbed sides
   reverbed_is = refl
 

@@ -1,6 +1,6 @@
 -- kira's `reverb.rs`, one frame: "mono input (left + right) * 0.015; eight combs a side summed from 0; four all-passes
 -- a side in series; width; mix". Definitions only.
-use Rattle.std.specs.Prelude.{◌&&◌, cond, List, [], ◌∷◌, ℕ, leb, length, get_or, set, take, drop, Float}
+use Rattle.std.specs.Prelude.{◌&&◌, cond, List, [], ◌∷◌, ℕ, leb, length, get_or, set, take, drop, sum, Float}
 use Rattle.std.specs.Float.{nan, binary32}
 use Rattle.std.specs.Float.Ieee.{add, sub, mul, div}
 use Rattle.float.specs.Literal.{literal}
@@ -10,7 +10,7 @@ use Rattle.line.specs.Held.{Held, holds, front, back, joined, Ran, ran}
 use Rattle.line.specs.Comb.{combed_of, comb_line_of}
 use Rattle.line.specs.AllPass.{passed_of, pass_line_of}
 use Rattle.reverb_tuning.specs.Tuning.{side_combs, side_lines, comb_count, line_count}
-use Rattle.reverb_tuning.specs.Tuning.{reverb_lines, total, reverb_floats}
+use Rattle.reverb_tuning.specs.Tuning.{reverb_lines, reverb_floats}
 
 -- a float and the three stretches: what one line gives and leaves, or several in turn
 pub record Heard : Type 0 where
@@ -72,7 +72,7 @@ unfolding side_of
 reverbed rate feedback damping width mix r =
     let input = mul binary32 (add binary32 r.frame.left r.frame.right) (literal binary32 15 1000) in
     let lines = reverb_lines rate in
-    let n = total (take side_lines lines) in
+    let n = sum (take side_lines lines) in
     let left = side_of (take side_lines lines) feedback damping input (front n side_lines side_combs r.held) in
     let right = side_of (drop side_lines lines) feedback damping input (back n side_lines side_combs r.held) in
     ran (mix_of (width_of left.out right.out width) r.frame mix) (joined left.held right.held)

@@ -3,11 +3,11 @@
 // the right side's. Each line is lent alone to its comb or all-pass, and the rest is handed on.
 #![tactic(auto)]
 
-ghost use Rattle.std.specs.Prelude.{◌≡◌, List, ◌+◌, ◌≤◌, Float, length};
+ghost use Rattle.std.specs.Prelude.{◌≡◌, List, ◌+◌, ◌≤◌, Float, length, sum};
 ghost use Rattle.std.proofs.Math.Seq.{slice};
 ghost use Rattle.line.specs.Held.{holds, ran};
-ghost use Rattle.reverb_tuning.specs.Tuning.{line_count, reverb_lines, total};
-ghost use Rattle.reverb.specs.Reverb.{heard, comb_of, pass_of, lines_in_turn, width_of, reverb_of};
+ghost use Rattle.reverb_tuning.specs.Tuning.{side_combs, side_lines, line_count, reverb_lines};
+ghost use Rattle.reverb.specs.Reverb.{heard, pass_of, lines_in_turn, side_of, width_of, reverb_of};
 
 use frame::Frame;
 use line::{all_pass, comb};
@@ -15,81 +15,66 @@ use reverb_tuning::{
     COMBS, LINES, SIDE_COMBS, SIDE_LINES, floats_from, reverb_floats, reverb_line,
 };
 
-// The line at which the right side's all-passes begin.
-const RIGHT_PASSES: usize = SIDE_LINES + SIDE_COMBS;
+// The all-passes of one side.
+const SIDE_PASSES: usize = SIDE_LINES - SIDE_COMBS;
 
-// Runs the all-passes from line k up to but not including line `end`, one after another.
-fn passes(
-    k: usize,
-    end: usize,
-    rate: u32,
-    input: f32,
-    store: &mut [f32],
-    positions: &mut [usize],
-) -> f32
-    requires { (k ≤ end) × (end ≤ line_count) × (total (slice k end (reverb_lines rate)) ≤ length store.old) × (end ≤ k + length positions.old) }
+// Runs a side's all-passes, which begin with line `first`, one after another.
+fn passes(first: usize, rate: u32, input: f32, store: &mut [f32], positions: &mut [usize]) -> f32
+    requires { (first + 4 ≤ line_count) × (sum (slice first (first + 4) (reverb_lines rate)) ≤ length store.old) × (4 ≤ length positions.old) }
     ensures { (floats : List Float) → heard result (holds store.new positions.new floats)
-        ≡ lines_in_turn 0 pass_of heard (slice k end (reverb_lines rate)) input (holds store.old positions.old floats) }
+        ≡ lines_in_turn 0 pass_of heard (slice first (first + 4) (reverb_lines rate)) input (holds store.old positions.old floats) }
 {
-    if k == end {
-        return input;
+    let mut output = input;
+    let mut start = 0;
+    for k in 0..SIDE_PASSES {
+        let end = start + reverb_line(first + k, rate);
+        let passed = all_pass::process(&mut store[start..end], positions[k], output);
+        output = passed.output;
+        positions[k] = passed.at;
+        start = end;
     }
-    let n = reverb_line(k, rate);
-    let passed = all_pass::process(&mut store[..n], positions[0], input);
-    positions[0] = passed.at;
-    passes(
-        k + 1,
-        end,
-        rate,
-        passed.output,
-        &mut store[n..],
-        &mut positions[1..],
-    )
+    output
 }
 
-// Runs the combs from line k up to but not including line `end`, adds their outputs to `sum`, and runs
-// the four all-passes after them on the sum.
-fn combs(
-    k: usize,
-    end: usize,
+// Runs a side, whose lines begin with line `first`: its combs on the input, and its all-passes on the
+// sum of what the combs give.
+fn side(
+    first: usize,
     rate: u32,
     feedback: f32,
     damping: f32,
     input: f32,
-    sum: f32,
     store: &mut [f32],
     positions: &mut [usize],
     floats: &mut [f32],
 ) -> f32
-    requires { (k ≤ end) × (end + 4 ≤ line_count) × (total (slice k end (reverb_lines rate)) + total (slice end (end + 4) (reverb_lines rate)) ≤ length store.old) × (end + 4 ≤ k + length positions.old) × (end ≤ k + length floats.old) }
+    requires { (first + side_lines ≤ line_count) × (sum (slice first (first + side_lines) (reverb_lines rate)) ≤ length store.old) × (side_lines ≤ length positions.old) × (side_combs ≤ length floats.old) }
     ensures { heard result (holds store.new positions.new floats.new)
-        ≡ lines_in_turn 1 (comb_of feedback damping input) (lines_in_turn 0 pass_of heard (slice end (end + 4) (reverb_lines rate))) (slice k end (reverb_lines rate)) sum (holds store.old positions.old floats.old) }
+        ≡ side_of (slice first (first + side_lines) (reverb_lines rate)) feedback damping input (holds store.old positions.old floats.old) }
 {
-    if k == end {
-        return passes(end, end + 4, rate, sum, store, positions);
+    let mut sum = 0.0;
+    let mut start = 0;
+    for k in 0..SIDE_COMBS {
+        let end = start + reverb_line(first + k, rate);
+        let combed = comb::process(
+            &mut store[start..end],
+            positions[k],
+            floats[k],
+            input,
+            feedback,
+            damping,
+        );
+        sum += combed.output;
+        positions[k] = combed.at;
+        floats[k] = combed.filter_store;
+        start = end;
     }
-    let n = reverb_line(k, rate);
-    let combed = comb::process(
-        &mut store[..n],
-        positions[0],
-        floats[0],
-        input,
-        feedback,
-        damping,
-    );
-    positions[0] = combed.at;
-    floats[0] = combed.filter_store;
-    combs(
-        k + 1,
-        end,
+    passes(
+        first + SIDE_COMBS,
         rate,
-        feedback,
-        damping,
-        input,
-        sum + combed.output,
-        &mut store[n..],
-        &mut positions[1..],
-        &mut floats[1..],
+        sum,
+        &mut store[start..],
+        &mut positions[SIDE_COMBS..],
     )
 }
 
@@ -123,37 +108,27 @@ pub fn process(
         ≡ reverb_of rate feedback damping stereo_width mix (ran input (holds store.old positions.old floats.old)) }
 {
     let needed = reverb_floats(rate);
-    if store.len() < needed {
-        return input;
-    }
-    if positions.len() < LINES {
-        return input;
-    }
-    if floats.len() < COMBS {
+    if store.len() < needed || positions.len() < LINES || floats.len() < COMBS {
         return input;
     }
     let mono = (input.left + input.right) * 0.015;
     let n = needed - floats_from(SIDE_LINES, rate);
-    let left = combs(
+    let left = side(
         0,
-        SIDE_COMBS,
         rate,
         feedback,
         damping,
         mono,
-        0.0,
         &mut store[..n],
         &mut positions[..SIDE_LINES],
         &mut floats[..SIDE_COMBS],
     );
-    let right = combs(
+    let right = side(
         SIDE_LINES,
-        RIGHT_PASSES,
         rate,
         feedback,
         damping,
         mono,
-        0.0,
         &mut store[n..],
         &mut positions[SIDE_LINES..],
         &mut floats[SIDE_COMBS..],

@@ -26,7 +26,7 @@ const TUNINGS: [u32; SIDE_LINES] = [
 pub fn line_length(tuning: u32, rate: u32) -> usize
     ensures { result ≡ length_of tuning rate }
 {
-    ((tuning as u64) * (rate as u64) / 44100) as usize
+    (u64::from(tuning) * u64::from(rate) / 44100) as usize
 }
 
 // How many floats line k of a reverb has at this rate; 0 past the last line.

@@ -4,7 +4,7 @@
 ghost use Rattle.std.specs.Prelude.{◌≡◌};
 ghost use Rattle.same_slices.specs.Same.{same_floats};
 
-use float::bits::to_bits_f32;
+use float::bits::to_bits;
 
 // Whether two slices have the same length and the same floats, bit for bit; all NaNs count as one. Floats
 // alone need this: numbers are compared by `==`.
@@ -14,5 +14,5 @@ pub fn floats(a: &[f32], b: &[f32]) -> bool
     a.len() == b.len()
         && a.iter()
             .zip(b)
-            .all(|(x, y)| to_bits_f32(*x) == to_bits_f32(*y))
+            .all(|(x, y)| to_bits(*x) == to_bits(*y))
 }

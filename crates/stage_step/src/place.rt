@@ -5,16 +5,14 @@ ghost use Rattle.stage_step.specs.Step.{process_at};
 
 use crate::dispatch::step;
 use frame::Frame;
+use line_layout::layout::Layout;
 use memories::PLACES;
-use stage::setup::{ENDS, Setup};
 
 // The frame x through the stage at place i, whose feedback stages are at i + 1 to e - 1, with their
-// stretch of the store, the positions and the floats. `starts` says where lines start
-// (line_layout::starts::starts_of). Where i is not before e, or e is above 16, the frame comes back and
-// nothing changes.
+// stretch of the store, the positions and the floats. The layout says where lines start. Where i is not
+// before e, or e is above 16, the frame comes back and nothing changes.
 pub fn process(
-    setup: Setup,
-    starts: &[usize; ENDS],
+    layout: &Layout,
     i: usize,
     e: usize,
     x: Frame,
@@ -23,13 +21,10 @@ pub fn process(
     floats: &mut [f32],
 ) -> Frame
     ensures { ran result (holds store.new positions.new floats.new)
-        ≡ process_at setup starts.now i e (ran x (holds store.old positions.old floats.old)) }
+        ≡ process_at layout.now.setup layout.now.starts i e (ran x (holds store.old positions.old floats.old)) }
 {
-    if i >= e {
+    if i >= e || e > PLACES {
         return x;
     }
-    if e > PLACES {
-        return x;
-    }
-    step(setup, starts, i, e, 3, x, store, positions, floats)
+    step(layout, i, e, 3, x, store, positions, floats)
 }

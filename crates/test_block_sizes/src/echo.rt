@@ -4,7 +4,7 @@ ghost use Rattle.std.specs.Prelude.{◌<◌, length};
 use chain::run::run;
 use memories::{Memories, PLACES, zero};
 use stage::kind::Stage;
-use stage::setup::{Setup, empty, with};
+use stage::setup::Setup;
 use std::array;
 
 // What one way of running the echo leaves.
@@ -22,10 +22,9 @@ fn setup() -> Setup {
         mix: 0.5,
         owned: 0,
     };
-    with(
-        with(empty(44100), delay),
-        Stage::PanningControl { panning: 0.25 },
-    )
+    Setup::empty(44100)
+        .with(delay)
+        .with(Stage::PanningControl { panning: 0.25 })
 }
 
 // Sample i of the noise: from -1/2 up to 1/2, in steps of 2^-16.
@@ -52,7 +51,9 @@ pub(crate) fn echo(order: &[usize]) -> Ended
     let mut store = [0.0; 200];
     let mut memories = zero();
     for block in samples.chunks_exact_mut(order.len()) {
-        memories = run(setup(), block, memories, &mut store, [0; PLACES], order).memories;
+        if let Ok(outcome) = run(setup(), block, memories, &mut store, [0; PLACES], order) {
+            memories = outcome.memories;
+        }
     }
     Ended {
         samples,

@@ -8,7 +8,7 @@ mod echo;
 mod spoilt;
 
 use crate::echo::{Ended, by_frame, by_stage, echo};
-use float::bits::to_bits_f32;
+use float::bits::to_bits;
 use std::io;
 
 // How many samples, and so entries of an order, 4,096 frames and 64 frames have.
@@ -17,7 +17,7 @@ const WHOLE: usize = 8192;
 const PART: usize = 128;
 
 fn say_bits(rt: &impl Print, name: &str, x: f32) -> io::Result<()> {
-    let bits = to_bits_f32(x);
+    let bits = to_bits(x);
     println!(rt; "{name}: {bits:08x}")
 }
 

@@ -1,10 +1,10 @@
 // What the echo left, with the last number of one part changed: a float by its lowest bit.
 use crate::echo::Ended;
-use float::bits::{from_bits_f32, to_bits_f32};
+use float::bits::{from_bits, to_bits};
 use memories::{ALL_FLOATS, ALL_POSITIONS};
 
 fn next_to(x: f32) -> f32 {
-    from_bits_f32(to_bits_f32(x) ^ 1)
+    from_bits(to_bits(x) ^ 1)
 }
 
 pub(crate) fn sample(mut ended: Ended) -> Ended {

@@ -2,7 +2,7 @@
 ghost use Rattle.std.specs.Prelude.{◌<◌};
 
 use crate::frames;
-use float::bits::{from_bits_f32, to_bits_f32};
+use float::bits::{from_bits, to_bits};
 use frame::Frame;
 
 #[derive(Clone, Copy)]
@@ -22,7 +22,7 @@ pub(crate) enum Operation {
 fn number(at: usize) -> f32
     requires { at < 70 }
 {
-    from_bits_f32(frames::INPUTS[at])
+    from_bits(frames::INPUTS[at])
 }
 
 fn given(operation: Operation, a: Frame, b: Frame, n: f32) -> Frame {
@@ -62,8 +62,8 @@ pub(crate) fn agrees(operation: Operation, i: usize) -> bool {
         let a = Frame::new(number(5 * i), number(5 * i + 1));
         let b = Frame::new(number(5 * i + 2), number(5 * i + 3));
         let frame = given(operation, a, b, number(5 * i + 4));
-        let is_left = to_bits_f32(frame.left) == answer(operation, 2 * i);
-        let is_right = to_bits_f32(frame.right) == answer(operation, 2 * i + 1);
+        let is_left = to_bits(frame.left) == answer(operation, 2 * i);
+        let is_right = to_bits(frame.right) == answer(operation, 2 * i + 1);
         return is_left & is_right;
     }
     false

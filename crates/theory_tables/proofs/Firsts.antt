@@ -1,9 +1,8 @@
 -- Laws of the first number at which something is so, and of a loop that looks for it, number after number. Assumes nothing.
 use mathlib.Core.Path.{◌≡◌, refl, sym, ◌∙◌}
 use mathlib.Core.Bool.{Bool, true, false, cond, false≢true}
-use Rattle.std.specs.Option.{MatchOption}
 use Rattle.std.proofs.lemmas.Option.{none-some, cond_some}
-use Rattle.std.specs.Prelude.{Option, Some, None}
+use Rattle.std.specs.Prelude.{Some, None}
 use Prim.Native.Nat.{ℕ, zero, suc, ◌+◌, ◌≤◌, ◌<◌}
 use native.Mathlib.Omega.{arith}
 use native.Mathlib.Decide.{ℕ_discrete, dec_lt}
@@ -131,10 +130,3 @@ module _ {t : ℕ → Bool} {n k : ℕ} (l : Looked t n k) where
 
   pub look_none : n ≤ k → None ≡ found_of t n
   look_none h = rw (some_none t n (λ j g. l.clear j (omega (arith, l.within)))) refl
-
--- of `find` over the numbers below n: it is so at the number that is found and at none before it, or at none
-pub found_first : (t : ℕ → Bool) (n : ℕ) (r : Option ℕ)
-    → MatchOption r ((j : ℕ) → 0 ≤ j → j < n → t j ≡ false) (λ k. (0 ≤ k) × (k < n) × (t k ≡ true) × ((j : ℕ) → 0 ≤ j → j < k → t j ≡ false))
-    → r ≡ found_of t n
-found_first t n None h = rw (some_none t n (λ j. h j (omega arith))) refl
-found_first t n (Some k) (z, h, q, f) = rw (some_hit t n k h q, first_is t n k h (λ j. f j (omega arith)) q) refl

@@ -1,7 +1,7 @@
--- The promise of `tops_of` admits one outcome. Assumes nothing.
+-- The promise of `Tops::of` admits one outcome. Assumes nothing.
 use mathlib.Core.Path.{sym, ◌∙◌}
 use Rattle.float.proofs.Outcome.{Single}
-use Rattle.top_stages.proofs.tops_of as tops-of
+use Rattle.top_stages.proofs.Tops as tops
 
-pub tops_of_single : Single tops-of.Reads.Post
-tops_of_single κs a r r' s s' p q = p ∙ sym q
+pub of_single : Single tops.of.Reads.Post
+of_single κs a r r' s s' p q = p ∙ sym q

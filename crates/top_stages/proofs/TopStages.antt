@@ -1,4 +1,4 @@
--- Laws of the top stages: their places rise and end at the count, and the list of places that `tops_of` writes. Assumes nothing.
+-- Laws of the top stages: their places rise and end at the count, and the list of places that `Tops::of` writes. Assumes nothing.
 use mathlib.Core.Path.{◌≡◌, refl, ap, sym, ◌∙◌}
 use mathlib.Core.Bool.{Bool}
 use mathlib.Core.List.{List}
@@ -135,7 +135,7 @@ module _ (setup : Setup) where
       at k h (yes q) = w.beyond k h q ∙ rw (lt-leb k (tops_of setup) (omega arith))
       at k h (no q) = w.stands k (omega arith) ∙ rw (le-leb k (tops_of setup) (omega arith))
 
--- ---- what `tops_of` finds
+-- ---- what `Tops::of` finds
 module _ (setup : Setup) {t : Tops} (e : t ≡ tops_record setup) where
   pub tops_found : t.n ≡ tops_of setup
   unfolding tops_record

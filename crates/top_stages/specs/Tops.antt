@@ -17,11 +17,11 @@ unfoldable pub tops_of : Setup → ℕ
 unfolding top_at
 tops_of setup = first_of (λ k. leb (used_of setup) (top_at setup k)) places
 
--- what `tops_of` writes at place k: where top stage k stands; after the last top stage, where that ends; then 0
+-- what `Tops::of` writes at place k: where top stage k stands; after the last top stage, where that ends; then 0
 abbrev pub top_or0 : Setup → ℕ → ℕ
 top_or0 setup k = cond (leb k (tops_of setup)) (top_at setup k) 0
 
--- what `tops_of` gives: where the top stages stand, and how many there are
+-- what `Tops::of` gives: where the top stages stand, and how many there are
 unfoldable pub tops_record : Setup → Tops
 unfolding top_at tops_of list_from
 tops_record setup = record { places = list_of (top_or0 setup) (places + 1); n = tops_of setup }

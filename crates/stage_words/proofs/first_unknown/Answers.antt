@@ -1,9 +1,11 @@
--- It has looked at the words of each stage below i. The measure is count - i. Assumes nothing.
-use mathlib.Core.Path.{ap, sym, ◌∙◌}
+-- The first stage that is unknown is found, or all are known. Assumes nothing.
+use mathlib.Core.Path.{◌≡◌, ap, sym, ◌∙◌}
+use Prim.Native.Nat.{◌/◌}
+use lib.ListN.{length}
 use mathlib.Core.Bool.{not}
 use native.Mathlib.Omega.{arith}
 use Rattle.theory_tables.proofs.Firsts.{look_found, look_over}
-use Rattle.stage_words.specs.Words.{is_stage}
+use Rattle.stage_words.specs.Words.{word_count, is_stage}
 use Rattle.stage_words.proofs.first_unknown.Goals as goal
 
 pub returns-then-not-is_stage : goal.returns-then-not-is_stage
@@ -12,4 +14,4 @@ returns-then-not-is_stage c =
     look_found c.loop-i.invariant (omega arith) (ap not (sym known ∙ c.if-not-is_stage.true))
 
 pub returns : goal.returns
-returns c = look_over c.loop-i.invariant (omega arith)
+returns c = let e : length c.args.words.now / word_count ≡ c.loop-i.i = omega arith in e ∙ look_over c.loop-i.invariant (omega arith)

@@ -1,4 +1,4 @@
--- The words from n on are 0, so that the length is that of the first n. The measure is n. Assumes nothing.
+-- The words from n on are 0, so that the length is that of the first n. Assumes nothing.
 use mathlib.Core.Path.{◌≡◌, refl, sym, ◌∙◌}
 use mathlib.Core.List.{List}
 use Prim.Native.Nat.{ℕ, zero, suc, ◌+◌, ◌-◌, ◌<◌}
@@ -23,12 +23,14 @@ module _ (words : List ℕ) (at : ℕ) where
   length-less (suc n) h q = let e : suc n - 1 ≡ n = omega arith in rw e (simp (eq-eqb _ _ (rw e at q)))
 
 pub returns-then-word_at-ne0 : goal.returns-then-word_at-ne0
-returns-then-word_at-ne0 c = sym (length_found _ _ _ (omega arith) (λ e. c.if-word_at-ne0.true (c.word_at.ensures ∙ e))) ∙ c.loop-n.invariant.1
+returns-then-word_at-ne0 c =
+    let e : c.loop-n.n - 1 + 1 ≡ c.loop-n.n = omega arith in
+    e ∙ sym (length_found _ _ _ (omega arith) (λ e. c.if-word_at-ne0.true (c.word_at.ensures ∙ e))) ∙ c.loop-n.invariant
 
 pub loop-n-preserved : goal.loop-n-preserved
-loop-n-preserved c = (omega arith, sym (length-less _ _ _ (omega arith) (sym c.word_at.ensures ∙ c.if-word_at-ne0.false)) ∙ c.loop-n.invariant.1)
+loop-n-preserved c = sym (length-less _ _ _ (omega arith) (sym c.word_at.ensures ∙ c.if-word_at-ne0.false)) ∙ c.loop-n.invariant
 
 pub returns : goal.returns
 returns c =
     let none : c.loop-n.n ≡ 0 = omega arith in
-    none ∙ sym (length_none _ _) ∙ rw none at c.loop-n.invariant.1
+    sym (length_none _ _) ∙ rw none at c.loop-n.invariant

@@ -5,12 +5,14 @@ use native.Mathlib.Omega.{arith}
 use Rattle.memories.specs.Sizes.{places}
 use Rattle.stage_step.proofs.Steps.{place_inside, place_empty, place_past}
 use Rattle.stage_step.proofs.place.process.Goals as goal
+use Rattle.stage_step.proofs.place.process.Goals.{then-i-e-via-then-i-e, then-i-e-via-else-i-e+then-e-gt-PLACES}
 
 pub returns-then-i-e : goal.returns-then-i-e
-returns-then-i-e c = sym (place_empty _ _ _ _ _ (omega arith))
-
-pub returns-then-e-gt-PLACES : goal.returns-then-e-gt-PLACES
-returns-then-e-gt-PLACES c = sym (place_past _ _ _ _ _ (omega arith))
+returns-then-i-e c =
+    elim c.then-i-e.branch [
+      | then-i-e-via-then-i-e w ↦ sym (place_empty _ _ _ _ _ w.if-i-e.true)
+      | then-i-e-via-else-i-e+then-e-gt-PLACES w ↦ sym (place_past _ _ _ _ _ w.if-e-gt-PLACES.true)
+    ]
 
 pub returns : goal.returns
 returns c =

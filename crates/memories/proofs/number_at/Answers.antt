@@ -1,0 +1,5 @@
+use native.Mathlib.Omega.{arith}
+use Rattle.memories.proofs.number_at.Goals as goal
+
+pub returns : goal.returns
+returns c = rw (c.unwrap_or.ensures, c.copied.ensures) (c.get.ensures.lookup.4 (omega arith) 0)
