@@ -59,6 +59,7 @@ impl Case<'_> {
         }
     }
 
+    // Writes what the call answers, over these samples and this store.
     pub(crate) fn say_over(
         self,
         rt: &impl Print,
@@ -77,7 +78,7 @@ impl Case<'_> {
         say(rt, name, outcome.answer)
     }
 
-    // Over a store of 64 floats.
+    // The same over a store of 64 floats.
     pub(crate) fn say(self, rt: &impl Print, name: &str, samples: &mut [f32]) -> io::Result<()> {
         self.say_over(rt, name, samples, &mut [0.0; 64])
     }
