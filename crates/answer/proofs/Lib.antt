@@ -1,2 +1,2 @@
-pub mod Accepts
+pub mod Numbered
 pub mod OneOutcome

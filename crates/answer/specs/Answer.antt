@@ -1,5 +1,6 @@
 -- The answers, each with document 01's number and place. Definitions only.
-use Rattle.std.specs.Prelude.{Bool, ℕ, eqb, Result, Ok, Err, ⊤}
+use Rattle.std.specs.Prelude.{Bool, ℕ, Result, Ok, Err, ⊤}
+use Rattle.std.specs.Result.{is_ok}
 use Rattle.answer.specs.declared.Refusal.{Refusal}
 use Rattle.answer.specs.declared.Refusal.TheVariants.{Rate, Stages, Shape, Setting, Store, Position}
 use Rattle.answer.specs.declared.Refusal.TheVariants.{Samples, Frames, Progress, Sample, Entry}
@@ -44,4 +45,4 @@ place_of (Err (Entry at)) = at
 
 -- a call is accepted where its answer is no refusal
 abbrev pub accepted_of : Answer → Bool
-accepted_of answer = eqb (number_of answer) 0
+accepted_of answer = is_ok answer

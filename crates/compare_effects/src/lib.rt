@@ -17,7 +17,7 @@ pub mod effects;
 pub extern "C" fn sedhavil_sqrt_f32(x: f32) -> f32
     ensures { result ≡ sqrt_of binary32 x }
 {
-    rounding::sqrt::sqrt(x)
+    rounding::sqrt::sqrt::<f32>(x)
 }
 
 // `rounding::sqrt::sqrt`, to compare with `f64::sqrt`.
@@ -25,7 +25,7 @@ pub extern "C" fn sedhavil_sqrt_f32(x: f32) -> f32
 pub extern "C" fn sedhavil_sqrt_f64(x: f64) -> f64
     ensures { result ≡ sqrt_of binary64 x }
 {
-    rounding::sqrt::sqrt(x)
+    rounding::sqrt::sqrt::<f64>(x)
 }
 
 // `rounding::narrow::as_f32`, to compare with `as f32`.
@@ -49,7 +49,7 @@ pub extern "C" fn sedhavil_abs_f32(x: f32) -> f32
 pub extern "C" fn sedhavil_clamp_unit_f32(x: f32) -> f32
     ensures { result ≡ unit_of binary32 x }
 {
-    float::clamp::clamp_unit(x)
+    float::clamp::clamp_unit::<f32>(x)
 }
 
 // `float::clamp::clamp_unit`, to compare with `x.clamp(0.0, 1.0)`.
@@ -57,7 +57,7 @@ pub extern "C" fn sedhavil_clamp_unit_f32(x: f32) -> f32
 pub extern "C" fn sedhavil_clamp_unit_f64(x: f64) -> f64
     ensures { result ≡ unit_of binary64 x }
 {
-    float::clamp::clamp_unit(x)
+    float::clamp::clamp_unit::<f64>(x)
 }
 
 // `float::clamp::clamp_signed_unit`, to compare with `x.clamp(-1.0, 1.0)`.

@@ -5,31 +5,20 @@ use mathlib.Core.List.{List}
 use Prim.Native.Nat.{ℕ, ◌<◌}
 use native.Mathlib.Omega.{arith}
 use lib.ListN.{take, drop, take-append-drop}
-use borrow.Author.Tests.{eqb-true}
+use borrow.Author.Tests.{eqb-true, eqb-false}
 use Rattle.std.specs.Prelude.{Err}
 use Rattle.theory_tables.specs.Rows.{Row, NoRow, first_row}
 use Rattle.theory_tables.proofs.Tables.{Numbered, no_row, first_passed, first_refused}
 use Rattle.theory_tables.proofs.Tested.{Gives}
 use Rattle.answer.specs.declared.Refusal.{Refusal}
-use Rattle.answer.specs.declared.Refusal.TheVariants.{Rate, Stages, Shape, Setting, Store, Position}
-use Rattle.answer.specs.declared.Refusal.TheVariants.{Samples, Frames, Progress, Sample, Entry}
 use Rattle.answer.specs.Answer.{Answer, accepted, number_of, place_of, accepted_of}
+use Rattle.answer.proofs.Numbered.{accepted_numbered}
 
 pub part_clear : (xs : List (Row Answer)) {answer : Answer} → answer ≡ first_row xs accepted → Numbered number_of place_of xs → accepted_of answer ≡ true → NoRow xs
-part_clear xs {answer} e f h = no_row number_of place_of accepted xs f (ap number_of (sym e) ∙ eqb-true (number_of answer) 0 h)
+part_clear xs {answer} e f h = no_row number_of place_of accepted xs f (ap number_of (sym e) ∙ eqb-true (number_of answer) 0 (sym (accepted_numbered answer) ∙ h))
 
 numbered : (refusal : Refusal) → 0 < number_of (Err refusal)
-numbered Rate = omega arith
-numbered Stages = omega arith
-numbered (Shape at) = omega arith
-numbered (Setting at) = omega arith
-numbered (Store needed) = omega arith
-numbered (Position at) = omega arith
-numbered Samples = omega arith
-numbered Frames = omega arith
-numbered (Progress at) = omega arith
-numbered (Sample at) = omega arith
-numbered (Entry at) = omega arith
+numbered refusal = omega (arith, eqb-false (number_of (Err refusal)) 0 (sym (accepted_numbered (Err refusal))))
 
 -- the first n of these rows are a part, and its answer is known
 module _ {rs : List (Row Answer)} {whole : Answer} (g : Gives rs accepted whole) (n : ℕ) where

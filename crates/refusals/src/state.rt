@@ -36,7 +36,7 @@ fn is_ahead(frames: usize, progress: &[usize], k: usize) -> bool
     ensures { result ≡ decide (ahead_at frames progress.now k) }
 {
     let done = number_at(progress, k);
-    frames < done || 0 < k && number_at(progress, k - 1) < done
+    frames < done || (0 < k && number_at(progress, k - 1) < done)
 }
 
 // The first of `tops` top stages for which `is_ahead` says yes.

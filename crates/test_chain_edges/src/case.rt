@@ -61,6 +61,7 @@ impl Case<'_> {
         }
     }
 
+    // Writes what the call answers, over these samples and this store.
     pub(crate) fn say_over(
         self,
         rt: &impl Print,
@@ -79,7 +80,7 @@ impl Case<'_> {
         say(rt, name, outcome.map(|_| ()))
     }
 
-    // Over a store of 64 floats.
+    // The same over a store of 64 floats.
     pub(crate) fn say(self, rt: &impl Print, name: &str, samples: &mut [f32]) -> io::Result<()> {
         self.say_over(rt, name, samples, &mut [0.0; 64])
     }

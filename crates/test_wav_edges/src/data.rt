@@ -40,21 +40,12 @@ pub(crate) fn samples_out(rt: &impl Print) -> io::Result<()> {
     Ok(())
 }
 
-// How many frames go in, from so many bytes into so many samples.
-fn count_in(rt: &impl Print, bytes: &[u8], samples: &mut [f32]) -> io::Result<()> {
+// How many frames go in, from so many bytes into so many samples, and how many go out again.
+fn count_both(rt: &impl Print, bytes: &mut [u8], samples: &mut [f32]) -> io::Result<()> {
     let frames = sedhavil_wav_frames_in(bytes, samples);
-    println!(rt; "frames_in {} {} {frames}", bytes.len(), samples.len())
-}
-
-// How many frames go out, from so many samples into so many bytes.
-fn count_out(rt: &impl Print, samples: &[f32], bytes: &mut [u8]) -> io::Result<()> {
+    println!(rt; "frames_in {} {} {frames}", bytes.len(), samples.len())?;
     let frames = sedhavil_wav_frames_out(samples, bytes);
     println!(rt; "frames_out {} {} {frames}", samples.len(), bytes.len())
-}
-
-fn count_both(rt: &impl Print, bytes: &mut [u8], samples: &mut [f32]) -> io::Result<()> {
-    count_in(rt, bytes, samples)?;
-    count_out(rt, samples, bytes)
 }
 
 // Bytes of no frame, a part of one, one, one and a half, almost two, and two; two with room for one; a

@@ -9,8 +9,9 @@ use lib.Seq.{length-take-le, take_all, drop-cons, get_or-take, get_or-drop, take
 use Rattle.frame.specs.declared.Frame.{Frame}
 use Rattle.integrators.specs.declared.Integrators.{Integrators}
 use Rattle.line.specs.Held.{Held, holds, front, back, joined}
-use Rattle.reverb_tuning.specs.Tuning.{side_combs, side_lines, comb_count, line_count, reverb_lines, total}
-use Rattle.reverb_tuning.proofs.Tunings.{total_split}
+use Rattle.reverb_tuning.specs.Tuning.{side_combs, side_lines, comb_count, line_count, reverb_lines}
+use Rattle.std.specs.List.{sum}
+use Rattle.std.proofs.lemmas.List.Sums.{sum_by-cons, sum_by-append, sum_by-take-drop}
 use Rattle.memories.specs.Sizes.{place_positions, place_floats}
 use Rattle.theory_steps.proofs.Moved.{OnLines}
 use Rattle.theory_effects.specs.Line.{Line, line, buffer, position}
@@ -73,16 +74,17 @@ on_back k ns ps on j h = rw (get_or-drop k ps j 0, get_or-drop k ns j 0) (on (k 
 abbrev lengths : List (Line Float) → List ℕ
 lengths ls = map (λ (l : Line Float). length (buffer l)) ls
 
-lines_of : (ns : List ℕ) (store : List Float) (ps : List ℕ) → length store ≡ total ns → length ps ≡ length ns → OnLines ns ps
+lines_of : (ns : List ℕ) (store : List Float) (ps : List ℕ) → length store ≡ sum ns → length ps ≡ length ns → OnLines ns ps
     → (ls : List (Line Float)) × (lines_held ls ≡ holds store ps []) × (lengths ls ≡ ns)
 unfolding lines_held joined
 lines_of [] store [] s q on = ([], ap (λ xs. holds xs [] []) (sym (empty store s)), refl)
 lines_of [] store (p ∷ ps) s q on = absurd (omega arith)
 lines_of (n ∷ ns) store [] s q on = absurd (omega arith)
 lines_of (n ∷ ns) store (p ∷ ps) s q on =
-    let own : length (take n store) ≡ n = length-take-le n store (omega arith) in
+    let both : length store ≡ n + sum ns = omega (arith, s, sum_by-cons (λ (m : ℕ). m) n ns) in
+    let own : length (take n store) ≡ n = length-take-le n store (omega (arith, both)) in
     let l = on_line (take n store) p (omega (arith, own, on 0 (omega arith))) in
-    let r = lines_of ns (drop n store) ps (omega (arith, length-drop n store)) (omega arith) (λ k h. on (suc k) (omega arith)) in (
+    let r = lines_of ns (drop n store) ps (omega (arith, both, length-drop n store)) (omega arith) (λ k h. on (suc k) (omega arith)) in (
       l.0 ∷ r.0,
       (λ t. joined (holds (l.1 t) (l.2 t ∷ []) []) (r.1 t)) ∙ ap (λ xs. holds xs (p ∷ ps) []) (take-append-drop n store),
       λ t. (ap length l.1 ∙ own) t ∷ r.2 t,
@@ -102,7 +104,7 @@ combs_on (l ∷ ls) (f ∷ fs) e =
       ap (λ ns. length (buffer l) ∷ ns) r.2,
     )
 
-combs_of : (ns : List ℕ) (h : Held) → HeldSizes (total ns) (length ns) (length ns) h → OnLines ns h.positions
+combs_of : (ns : List ℕ) (h : Held) → HeldSizes (sum ns) (length ns) (length ns) h → OnLines ns h.positions
     → (cs : List Comb) × (combs_held cs ≡ h) × (map (λ (c : Comb). length (buffer c.line)) cs ≡ ns)
 combs_of ns h s on =
     let r = lines_of ns h.store h.positions s.store s.positions on in
@@ -111,21 +113,21 @@ combs_of ns h s on =
 
 -- ---- a side of a reverb, and both
 
-side_of_lem : (ns : List ℕ) (h : Held) → length ns ≡ side_lines → HeldSizes (total ns) side_lines side_combs h → OnLines ns h.positions
+side_of_lem : (ns : List ℕ) (h : Held) → length ns ≡ side_lines → HeldSizes (sum ns) side_lines side_combs h → OnLines ns h.positions
     → (side : Side) × (side_held side ≡ h) × Lengths ns side
 unfolding side_held front back
 side_of_lem ns h n s on =
     let few : length (take side_combs ns) ≡ side_combs = length-take-le side_combs ns (omega arith) in
-    let split = total_split side_combs ns in
-    let z : HeldSizes (total (take side_combs ns) + total (drop side_combs ns)) (side_combs + 4) (side_combs + 0) h = record { store = omega (arith, s.store); positions = s.positions; floats = s.floats } in
-    let a = front (total (take side_combs ns)) side_combs side_combs h in
-    let b = back (total (take side_combs ns)) side_combs side_combs h in
+    let split = sum_by-take-drop (λ (m : ℕ). m) ns side_combs in
+    let z : HeldSizes (sum (take side_combs ns) + sum (drop side_combs ns)) (side_combs + 4) (side_combs + 0) h = record { store = omega (arith, s.store); positions = s.positions; floats = s.floats } in
+    let a = front (sum (take side_combs ns)) side_combs side_combs h in
+    let b = back (sum (take side_combs ns)) side_combs side_combs h in
     let za = front_sizes _ side_combs side_combs _ 4 0 h z in
     let zb = back_sizes _ side_combs side_combs _ 4 0 h z in
     let c = combs_of (take side_combs ns) a (rw few za) (on_front side_combs ns h.positions on) in
     let l = lines_of (drop side_combs ns) b.store b.positions zb.store (omega (arith, zb.positions, length-drop side_combs ns)) (on_back side_combs ns h.positions on) in (
       record { combs = c.0; passes = l.0 },
-      (λ t. joined (c.1 t) ((l.1 ∙ ap (holds b.store b.positions) (sym (empty b.floats zb.floats))) t)) ∙ parted (total (take side_combs ns)) side_combs side_combs h,
+      (λ t. joined (c.1 t) ((l.1 ∙ ap (holds b.store b.positions) (sym (empty b.floats zb.floats))) t)) ∙ parted (sum (take side_combs ns)) side_combs side_combs h,
       record { combs = c.2; passes = l.2 },
     )
 
@@ -136,35 +138,31 @@ module _ (n : ℕ) (ls rs ps : List ℕ) (e : length ls ≡ n) (on : OnLines (ls
   on_right : OnLines rs (drop n ps)
   on_right = rw (drop_at ls rs n e) at (on_back n (ls ++ rs) ps on)
 
-total_append : (ls rs : List ℕ) → total (ls ++ rs) ≡ total ls + total rs
-total_append [] rs = omega arith
-total_append (n ∷ ls) rs = omega (arith, total_append ls rs)
-
 -- a reverb's own: both sides, and what is left of its place's memories
-sides_of : (ls rs : List ℕ) (h : Held) → length ls ≡ side_lines → length rs ≡ side_lines → HeldSizes (total (ls ++ rs)) place_positions place_floats h → OnLines (ls ++ rs) h.positions
+sides_of : (ls rs : List ℕ) (h : Held) → length ls ≡ side_lines → length rs ≡ side_lines → HeldSizes (sum (ls ++ rs)) place_positions place_floats h → OnLines (ls ++ rs) h.positions
     → (left : Side) × (right : Side) × (spare : Spare) × (joined (side_held left) (joined (side_held right) (spare_held spare)) ≡ h) × Lengths ls left × Lengths rs right × FullPlace line_count comb_count spare
 unfolding front back
 sides_of ls rs h p q s on =
-    let z : HeldSizes (total ls + total rs) (side_lines + side_lines) (side_combs + 12) h = record { store = s.store ∙ total_append ls rs; positions = s.positions; floats = s.floats } in
-    let a = front (total ls) side_lines side_combs h in
-    let b = back (total ls) side_lines side_combs h in
-    let zb = back_sizes (total ls) side_lines side_combs (total rs) side_lines 12 h z in
-    let y : HeldSizes (total rs + 0) (side_lines + 0) (side_combs + 4) b = record { store = omega (arith, zb.store); positions = zb.positions; floats = zb.floats } in
-    let c = front (total rs) side_lines side_combs b in
-    let d = back (total rs) side_lines side_combs b in
-    let zd = back_sizes (total rs) side_lines side_combs 0 0 4 b y in
-    let l = side_of_lem ls a p (front_sizes (total ls) side_lines side_combs (total rs) side_lines 12 h z) (on_left side_lines ls rs h.positions p on) in
-    let r = side_of_lem rs c q (front_sizes (total rs) side_lines side_combs 0 0 4 b y) (rw (take_all side_lines b.positions (omega (arith, zb.positions))) (on_right side_lines ls rs h.positions p on)) in (
+    let z : HeldSizes (sum ls + sum rs) (side_lines + side_lines) (side_combs + 12) h = record { store = s.store ∙ sum_by-append (λ (m : ℕ). m) ls rs; positions = s.positions; floats = s.floats } in
+    let a = front (sum ls) side_lines side_combs h in
+    let b = back (sum ls) side_lines side_combs h in
+    let zb = back_sizes (sum ls) side_lines side_combs (sum rs) side_lines 12 h z in
+    let y : HeldSizes (sum rs + 0) (side_lines + 0) (side_combs + 4) b = record { store = omega (arith, zb.store); positions = zb.positions; floats = zb.floats } in
+    let c = front (sum rs) side_lines side_combs b in
+    let d = back (sum rs) side_lines side_combs b in
+    let zd = back_sizes (sum rs) side_lines side_combs 0 0 4 b y in
+    let l = side_of_lem ls a p (front_sizes (sum ls) side_lines side_combs (sum rs) side_lines 12 h z) (on_left side_lines ls rs h.positions p on) in
+    let r = side_of_lem rs c q (front_sizes (sum rs) side_lines side_combs 0 0 4 b y) (rw (take_all side_lines b.positions (omega (arith, zb.positions))) (on_right side_lines ls rs h.positions p on)) in (
       l.0,
       r.0,
       record { positions = d.positions; floats = d.floats },
-      (λ t. joined (l.1 t) (((λ t. joined (r.1 t) (holds (sym (empty d.store zd.store) t) d.positions d.floats)) ∙ parted (total rs) side_lines side_combs b) t)) ∙ parted (total ls) side_lines side_combs h,
+      (λ t. joined (l.1 t) (((λ t. joined (r.1 t) (holds (sym (empty d.store zd.store) t) d.positions d.floats)) ∙ parted (sum rs) side_lines side_combs b) t)) ∙ parted (sum ls) side_lines side_combs h,
       l.2,
       r.2,
       record { positions_are = omega (arith, zd.positions); floats_are = omega (arith, zd.floats) },
     )
 
-pub reverb_of_lem : (rate : ℕ) (h : Held) → HeldSizes (total (reverb_lines rate)) place_positions place_floats h → OnLines (reverb_lines rate) h.positions
+pub reverb_of_lem : (rate : ℕ) (h : Held) → HeldSizes (sum (reverb_lines rate)) place_positions place_floats h → OnLines (reverb_lines rate) h.positions
     → (left : Side) × (right : Side) × (spare : Spare) × (joined (side_held left) (joined (side_held right) (spare_held spare)) ≡ h)
     × FullSide rate 0 left × FullSide rate 23 right × FullPlace line_count comb_count spare
 unfolding reverb_lines

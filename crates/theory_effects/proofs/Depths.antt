@@ -1,6 +1,6 @@
 -- Effects that stand in a list without a faulty stage have four levels at most: depths 0 to 3. Assumes nothing.
-use mathlib.Core.Path.{◌≡◌, ap, sym, ◌∙◌}
-use mathlib.Core.List.{List, ◌++◌}
+use mathlib.Core.Path.{◌≡◌, ap}
+use mathlib.Core.List.{◌++◌}
 use Prim.Native.Nat.{ℕ, suc, ◌+◌, ◌-◌, ◌≤◌, ◌<◌}
 use native.Mathlib.Omega.{arith}
 use native.Mathlib.Numerals.{add-one}
@@ -16,7 +16,6 @@ use Rattle.theory_effects.specs.Effects.{Effect, volume_control, panning_control
 use Rattle.theory_effects.specs.Standing.{stages_in, stages_of}
 use Rattle.theory_effects.proofs.Sized.{Stand, stand_parts}
 use Rattle.theory_effects.proofs.Deep.{deep_in, deep}
-use Rattle.theory_effects.proofs.Steps.{first_stage}
 
 module _ (setup : Setup) (sound : NoneFaulty setup) where
   -- d of the stages before place i own each of the m stages from i on

@@ -1,12 +1,7 @@
 -- A frame through effects changes no setting and no length: they stand in the list as before, and are as whole as before. Assumes nothing.
-use mathlib.Core.Path.{◌≡◌, refl, ap, ◌∙◌}
-use mathlib.Core.List.{List, [], ◌∷◌, ◌++◌}
+use mathlib.Core.Path.{◌≡◌, refl}
 use Prim.Native.Nat.{ℕ}
-use lib.ListN.{length}
 use Rattle.frame.specs.declared.Frame.{Frame}
-use Rattle.stage.specs.declared.kind.Stage.{Stage}
-use Rattle.stage.specs.declared.kind.Stage.TheVariants.{Delay}
-use Rattle.theory_effects.specs.Line.{buffer}
 use Rattle.theory_effects.specs.Effects.{Spare, Effect, volume_control, panning_control, distortion, filter, eq_filter, reverb, delay, Effects, none, next}
 use Rattle.theory_effects.specs.Process.{process, process_all}
 use Rattle.theory_effects.specs.Standing.{stages_in, stages_of, Full, AllFull}

@@ -1,5 +1,5 @@
 -- One frame through a reverb that has all of its lines is what kira's lines, sides and reverb make of it, each with what it alone holds. Assumes nothing.
-use mathlib.Core.Path.{◌≡◌, refl, ap, ◌∙◌}
+use mathlib.Core.Path.{◌≡◌, refl, sym, ap, ◌∙◌}
 use mathlib.Core.Bool.{true}
 use mathlib.Core.List.{List, [], ◌∷◌, map}
 use Prim.Native.Nat.{ℕ, ◌*◌, ◌≤◌}
@@ -14,8 +14,10 @@ use Rattle.line.specs.AllPass.{passed_of, pass_line_of}
 use Rattle.line.specs.Comb.{store_of, combed_of, comb_line_of}
 use Rattle.line.specs.Held.{Held, holds, joined, ran}
 use Rattle.memories.specs.Sizes.{place_positions, place_floats}
-use Rattle.reverb_tuning.specs.Tuning.{comb_count, line_count, reverb_lines, total, reverb_floats}
-use Rattle.reverb_tuning.proofs.Tunings.{total_split, floats_are}
+use Rattle.reverb_tuning.specs.Tuning.{comb_count, line_count, reverb_lines, reverb_floats}
+use Rattle.reverb_tuning.proofs.Tunings.{floats_are}
+use Rattle.std.specs.List.{sum}
+use Rattle.std.proofs.lemmas.List.Sums.{sum_by-cons, sum_by-take-drop}
 use Rattle.reverb.specs.Reverb.{Heard, heard, comb_of, pass_of, lines_in_turn, side_of, width_of, reverb_of}
 use Rattle.reverb.proofs.Levels.{mono, sides, fits, side_is, reverbed_is, reverb_is}
 use Rattle.theory_effects.specs.Line.{Line, buffer, position}
@@ -78,11 +80,11 @@ record InLine {A : Type 0} (f : ℕ) (size : A → ℕ) (own : A → Held) (all 
   more : (a : A) (l : List A) → all (a ∷ l) ≡ joined (own a) (all l)
 
 module _ {A : Type 0} {f : ℕ} {size : A → ℕ} {own : A → Held} {all : List A → Held} (are : InLine f size own all) where
-  all_sized : (l : List A) → HeldSizes (total (map size l)) (length l) (f * length l) (all l)
+  all_sized : (l : List A) → HeldSizes (sum (map size l)) (length l) (f * length l) (all l)
   all_sized [] = rw are.none (record { store = refl; positions = refl; floats = omega arith })
   all_sized (a ∷ l) =
       let s = sizes_joined (own a) (all l) _ _ _ _ _ _ (are.sized a) (all_sized l) in
-      rw (are.more a l) (record { store = s.store; positions = omega arith; floats = omega arith })
+      rw (are.more a l) (record { store = s.store ∙ sym (sum_by-cons (λ (n : ℕ). n) (size a) (map size l)); positions = omega arith; floats = omega arith })
 
   lines_whole : (step : Float → A → Float × A) (line next : Float → Held → Heard) → ((x : Float) (a : A) → line x (own a) ≡ heard (step x a).0 (own (step x a).1))
       → (l : List A) (x y : Float) (h g : Held) → next (each_in_turn step x l).0 h ≡ heard y g
@@ -135,13 +137,13 @@ module _ (feedback damping x : Float) (side : Side) where
       passes = lengths_kept line_size pass_step pass_kept side.passes _ ∙ full.passes;
     })
 
-side_sized : (lines : List ℕ) (side : Side) → length lines ≡ 12 → Lengths lines side → HeldSizes (total lines) 12 8 (side_held side)
+side_sized : (lines : List ℕ) (side : Side) → length lines ≡ 12 → Lengths lines side → HeldSizes (sum lines) 12 8 (side_held side)
 side_sized lines side twelve full =
     let eight : length side.combs ≡ 8 = omega (arith, length-map side.combs comb_size, ap length full.combs, length-take 8 lines) in
     let four : length side.passes ≡ 4 = omega (arith, length-map side.passes line_size, ap length full.passes, length-drop 8 lines) in
     let s = sizes_joined _ _ _ _ _ _ _ _ (all_sized combs_are side.combs) (all_sized passes_are side.passes) in
     rw (side_held_lem side) (record {
-      store = omega (arith, ap total full.combs, ap total full.passes, total_split 8 lines);
+      store = omega (arith, ap sum full.combs, ap sum full.passes, sum_by-take-drop (λ (n : ℕ). n) lines 8);
       positions = omega arith;
       floats = omega arith;
     })
@@ -183,11 +185,11 @@ module _ (rate : ℕ) (feedback damping width mix : Float) (left right : Side) (
     unfolding Full
     place_full = full.2
 
-    left_sized : HeldSizes (total (take 12 (reverb_lines rate))) 12 8 (side_held left)
+    left_sized : HeldSizes (sum (take 12 (reverb_lines rate))) 12 8 (side_held left)
     unfolding reverb_lines
     left_sized = side_sized (take 12 (reverb_lines rate)) left refl left_are
 
-    right_sized : HeldSizes (total (drop 12 (reverb_lines rate))) 12 8 (side_held right)
+    right_sized : HeldSizes (sum (drop 12 (reverb_lines rate))) 12 8 (side_held right)
     unfolding reverb_lines
     right_sized = side_sized (drop 12 (reverb_lines rate)) right refl right_are
 
@@ -196,7 +198,7 @@ module _ (rate : ℕ) (feedback damping width mix : Float) (left right : Side) (
     reverb_sizes =
         let place = place_full in
         let s = sizes_joined _ _ _ _ _ _ _ _ left_sized (sizes_joined _ _ _ _ _ _ _ _ right_sized (spare_sized spare)) in
-        rw reverb_held (record { store = omega (arith, floats_are rate, total_split 12 (reverb_lines rate)); positions = omega arith; floats = omega arith })
+        rw reverb_held (record { store = omega (arith, floats_are rate, sum_by-take-drop (λ (n : ℕ). n) (reverb_lines rate) 12); positions = omega arith; floats = omega arith })
 
     -- so there is room for a reverb
     reverb_fits : fits rate (held_in effect spare) ≡ true

@@ -1,16 +1,15 @@
 -- How much effects hold: as many floats as the lines of their stages have, and the positions and floats of one place for each stage. Assumes nothing.
 use mathlib.Core.Path.{◌≡◌, refl, ap, sym, ◌∙◌}
 use mathlib.Core.List.{List, [], ◌∷◌, ◌++◌}
-use Prim.Native.Nat.{ℕ, zero, suc, ◌+◌, ◌*◌}
+use Prim.Native.Nat.{ℕ, suc, ◌+◌, ◌*◌}
 use native.Mathlib.Omega.{arith}
-use native.Mathlib.Numerals.{add-one}
 use lib.IntN.{ℤ}
 use lib.Ieee.{Float}
 use lib.ListN.{length, length-append}
 use Rattle.frame.specs.declared.Frame.{Frame}
 use Rattle.integrators.specs.declared.Integrators.{Integrators}
 use Rattle.line.specs.Held.{Held, holds, joined}
-use Rattle.reverb_tuning.specs.Tuning.{reverb_floats, reverb_lines, total}
+use Rattle.reverb_tuning.specs.Tuning.{reverb_floats}
 use Rattle.reverb_tuning.proofs.Tunings.{floats_are}
 use Rattle.memories.specs.Sizes.{place_positions, place_floats}
 use Rattle.stage.specs.declared.kind.Stage.{Stage}

@@ -2,7 +2,7 @@
 -- The effects stand in the list of stages and in what is held, are whole, and are not deeper than the recursion goes.
 use mathlib.Core.Path.{◌≡◌, refl, ap, sym, ◌∙◌}
 use mathlib.Core.List.{List, [], ◌∷◌, ◌++◌, append-nil}
-use Prim.Native.Nat.{ℕ, zero, suc, ◌+◌, ◌*◌, ◌-◌, ◌≤◌, ◌<◌}
+use Prim.Native.Nat.{ℕ, zero, suc, ◌+◌, ◌*◌, ◌-◌, ◌≤◌}
 use native.Mathlib.Omega.{arith}
 use native.Mathlib.Nat.{zero-add, suc-add}
 use lib.IntN.{ℤ}
@@ -18,7 +18,7 @@ use Rattle.integrators.specs.declared.Integrators.{Integrators}
 use Rattle.integrators.specs.declared.Filtered.{Filtered}
 use Rattle.filters.specs.Filter.{filter_of}
 use Rattle.filters.specs.EqFilter.{eq_of}
-use Rattle.line.specs.Held.{Held, holds, front, back, joined, Ran, ran}
+use Rattle.line.specs.Held.{Held, holds, joined, Ran, ran}
 use Rattle.line.specs.Frames.{frame_at, frame_in}
 use Rattle.reverb_tuning.specs.Tuning.{comb_count}
 use Rattle.memories.specs.Sizes.{places, place_positions, place_floats}
@@ -28,7 +28,7 @@ use Rattle.stage.specs.declared.setup.Setup.{Setup}
 use Rattle.stage.specs.Holding.{holding_of, owned_of}
 use Rattle.stage.specs.Setup.{stage_at, next_place}
 use Rattle.stage.proofs.Next.{next_inside}
-use Rattle.line_layout.specs.Layout.{start_of, starts_of, size_of}
+use Rattle.line_layout.specs.Layout.{starts_of, size_of}
 use Rattle.line_layout.proofs.LineStarts.{starts_at}
 use Rattle.stage_step.specs.Step.{remembering, delay_stage, stage_step, in_turn, span_of, step_of, process_at}
 use Rattle.stage_step.proofs.Levels.{step_is, span_zero, span_shallow, span_is, place_is}
@@ -39,7 +39,7 @@ use Rattle.theory_effects.specs.Standing.{stages_in, stages_of, side_by_side, me
 use Rattle.theory_effects.proofs.Joined.{HeldSizes, front_joined, back_joined}
 use Rattle.theory_effects.proofs.Lines.{position_on, length_sides, frame_here, frame_stored}
 use Rattle.theory_effects.proofs.Reverbs.{reverb_whole}
-use Rattle.theory_effects.proofs.Sized.{Stand, stand_parts, floats_in, start_after, sized_in, sized_of}
+use Rattle.theory_effects.proofs.Sized.{Stand, stand_parts, floats_in, start_after, sized_in}
 use Rattle.theory_effects.proofs.Deep.{deep_in, deep, some_level}
 
 -- ---- a filter or an EQ

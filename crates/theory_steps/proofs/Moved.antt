@@ -14,8 +14,10 @@ use Rattle.line.specs.AllPass.{passed_of}
 use Rattle.line.specs.Comb.{combed_of}
 use Rattle.line.specs.Held.{Held, front, back, joined, Ran}
 use Rattle.line.specs.Position.{next_position}
-use Rattle.reverb_tuning.specs.Tuning.{side_combs, side_lines, comb_count, line_count, reverb_lines, total, reverb_floats}
-use Rattle.reverb_tuning.proofs.Tunings.{total_split, lines_length, floats_are}
+use Rattle.std.specs.List.{sum}
+use Rattle.std.proofs.lemmas.List.Sums.{sum_by-cons, sum_by-take-drop}
+use Rattle.reverb_tuning.specs.Tuning.{side_combs, side_lines, comb_count, line_count, reverb_lines, reverb_floats}
+use Rattle.reverb_tuning.proofs.Tunings.{lines_length, floats_are}
 use Rattle.reverb.specs.Reverb.{Heard, heard, comb_of, pass_of, lines_in_turn, side_of, reverbed, reverb_of}
 use Rattle.reverb.proofs.Keeps.{side_keeps}
 use Rattle.reverb.proofs.Levels.{mono, sides, side_is, reverbed_is, reverb_is}
@@ -104,7 +106,7 @@ module _ (n : ℕ) (lines : List ℕ) (pos : Positive lines) where
 -- ---- lines in turn, where the store has room for them
 
 abbrev Moves : List ℕ → (Float → Held → Heard) → Type 0
-Moves lines f = (x : Float) (h : Held) → total lines ≤ length h.store → length lines ≤ length h.positions → Moved lines h.positions (f x h).held.positions
+Moves lines f = (x : Float) (h : Held) → sum lines ≤ length h.store → length lines ≤ length h.positions → Moved lines h.positions (f x h).held.positions
 
 -- what is left for the lines after one of n
 enough_after : {A : Type 0} (n m : ℕ) (xs : List A) → n + m ≤ length xs → m ≤ length (drop n xs)
@@ -127,9 +129,10 @@ module _ (f : ℕ) (step next : Float → Held → Heard) (on : MovesOn step) (a
   unfolding lines_in_turn front back joined
   lines_move [] pos x h s p = moves x h s p
   lines_move (n ∷ ns) pos x h s p =
+      let room : n + sum (ns ++ after) ≤ length h.store = omega (arith, s, sum_by-cons (λ (z : ℕ). z) n (ns ++ after)) in
       rw on
       (moved_more n (ns ++ after) h.positions _ _ (omega arith) (next_taken _ n h.store (omega arith) (pos 0 (omega arith)))
-      (lines_move ns (λ k g. pos (suc k) (omega arith)) _ _ (enough_after n _ h.store s) (enough_after 1 _ h.positions (omega arith))))
+      (lines_move ns (λ k g. pos (suc k) (omega arith)) _ _ (enough_after n _ h.store room) (enough_after 1 _ h.positions (omega arith))))
 
 -- a side's eight combs and four all-passes
 side_moves : (lines : List ℕ) (feedback damping : Float) → Positive lines → Moves lines (side_of lines feedback damping)
@@ -149,10 +152,10 @@ module _ (rate : ℕ) (feedback damping width mix : Float) (r : Ran) where
       let lines = reverb_lines rate in
       let l = take side_lines lines in
       let m = drop side_lines lines in
-      let n = total l in
+      let n = sum l in
       let x = mono r.frame in
       let ps = r.held.positions in
-      let all : n + total m ≡ reverb_floats rate = total_split side_lines lines ∙ sym (floats_are rate) in
+      let all : n + sum m ≡ reverb_floats rate = sum_by-take-drop (λ (z : ℕ). z) lines side_lines ∙ sym (floats_are rate) in
       let l_size : length l ≡ side_lines = length-take-le side_lines lines (omega (arith, lines_length rate)) in
       let m_size : length m ≡ side_lines = omega (arith, length-drop side_lines lines, lines_length rate) in
       let taken : length (take side_lines ps) ≡ side_lines = length-take-le side_lines ps (omega arith) in

@@ -1,4 +1,5 @@
-// Blocks of frames, as bytes of a file and as floats. A frame is four bytes, or two floats.
+// Blocks of frames, as bytes of a file and as floats. A frame is four bytes, or two floats. Samples go by
+// index: of what is written through a `zip` of `iter_mut` or `chunks_exact_mut`, a proof knows the length alone.
 ghost use Rattle.std.specs.Prelude.{◌≡◌, ◌+◌, ◌*◌, ◌/◌, ◌<◌, min, length, set};
 ghost use Rattle.wav_samples.specs.Frames.{whole_frames, sample_at, low_of, high_of, samples_in, bytes_out};
 

@@ -47,7 +47,7 @@ fn held(is_negative: bool, steps: u64) -> i16
 pub fn sample_out(x: f32) -> i16
     ensures { result ≡ sample_out x }
 {
-    let bits = to_bits(x) as u64;
+    let bits = u64::from(to_bits(x));
     let n = steps(bits % 0x8000_0000 / 0x80_0000, bits % 0x80_0000);
     held(bits >= 0x8000_0000, n)
 }

@@ -59,18 +59,18 @@ impl Stop {
     }
 }
 
-// Reads until the bytes are full, the input ends or a read fails, and returns how many bytes came.
+// Reads until the bytes are full, the input ends or a read fails, and returns how many bytes came, which
+// `read_exact` would not say.
 fn read_full(rt: &impl Input, bytes: &mut [u8]) -> usize
     ensures { result ≤ length bytes.old }
 {
     let mut input = rt.reader();
     let mut done = 0;
     while done < bytes.len() {
-        let n = input.read(&mut bytes[done..]).unwrap_or(0);
-        if n == 0 {
-            break;
+        match input.read(&mut bytes[done..]) {
+            Ok(0) | Err(_) => break,
+            Ok(n) => done += n,
         }
-        done += n;
     }
     done
 }

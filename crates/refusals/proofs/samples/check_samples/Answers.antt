@@ -11,7 +11,7 @@ use Rattle.answer.specs.Answer.{accepted}
 use Rattle.refusals.specs.Refusals.{unrun_from, bad_sample, sample_rows, sample_answer}
 use Rattle.refusals.proofs.samples.check_samples.Goals as goal
 
--- all the rows, where the frames run are `done`
+-- all the rows
 table : (tops : ℕ) (samples : List Float) (progress : List ℕ) → Gives (sample_rows tops samples progress) accepted (sample_answer tops samples progress)
 unfolding sample_answer
 table tops samples progress = record { same = refl }
