@@ -16,6 +16,7 @@ use Rattle.stage.specs.Setup.{used_of}
 use Rattle.line_layout.specs.Layout.{needed_of}
 use Rattle.line_layout.proofs.LineStarts.{start_le}
 use Rattle.answer.specs.Answer.{number_of, accepted_of}
+use Rattle.answer.proofs.Numbered.{accepted_numbered}
 use Rattle.refusals.specs.Refusals.{chain_answer}
 use Rattle.top_stages.specs.Tops.{top_at, tops_of}
 use Rattle.top_stages.proofs.TopStages.{top_le}
@@ -104,7 +105,8 @@ module _ (setup : Setup) where
   past_start store true t =
       let n : ℕ = needed_of setup in
       let table = starts_tabled setup store in
-      let rows = table.answer.clear (eqb-true (number_of (chain_answer setup n (length store))) 0 t) in
+      let answer = chain_answer setup n (length store) in
+      let rows = table.answer.clear (eqb-true (number_of answer) 0 (sym (accepted_numbered answer) ∙ t)) in
       let room : n ≤ length store = omega (arith, rows.1.1.1.1.0) in
       rw (table.cleared t) (record {
         lengths = simp (length-append, length-replicate, length-drop) (omega arith);

@@ -1,5 +1,5 @@
 -- What is known once a call is accepted, and what it leaves then or otherwise. Assumes nothing.
-use mathlib.Core.Path.{◌≡◌}
+use mathlib.Core.Path.{◌≡◌, ap, sym}
 use mathlib.Core.Bool.{false}
 use mathlib.Core.List.{List, []}
 use Prim.Native.Nat.{ℕ}
@@ -8,7 +8,7 @@ use lib.ListN.{length}
 use Rattle.line.specs.Held.{Held}
 use Rattle.theory_order.specs.Chain.{State}
 use Rattle.stage.specs.declared.setup.Setup.{Setup}
-use Rattle.answer.specs.Answer.{accepted_of}
+use Rattle.answer.specs.Answer.{accepted, accepted_of}
 use Rattle.theory_refusals.proofs.Clears.{clear_of_accepted}
 use Rattle.chain.specs.Chain.{Ready, Orderly, ordered}
 use Rattle.chain.specs.Run.{answer_on, leaves_by, leaves_of, order_to_end, rendered_of}
@@ -27,6 +27,10 @@ module _ (setup : Setup) (s : State Float Held) where
 
     pub can_run : Arrays s → Taken setup s order → CanRun setup s order
     can_run a t = let z = clear t in record { can = ready setup s order a z; runs = orderly setup s order z }
+
+    -- a call whose answer is that it is accepted, of a chain by either of its names
+    pub plan_runs : {planned : Setup} → Arrays s → accepted ≡ answer_on setup s order → planned ≡ setup → CanRun planned s order
+    plan_runs a answer same = rw same (can_run a (ap accepted_of (sym answer)))
 
     -- these entries are run, or nothing is
     pub leaves_by_lem : (entries : List ℕ) → Taken setup s order → leaves_by setup s order entries ≡ ordered setup s entries

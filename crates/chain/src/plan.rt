@@ -105,7 +105,13 @@ impl Plan {
     }
 
     // Runs top stage k on all the frames that it has left.
-    fn advance_to_end(&self, k: usize, samples: &mut [f32], store: &mut [f32], outcome: &mut Outcome)
+    fn advance_to_end(
+        &self,
+        k: usize,
+        samples: &mut [f32],
+        store: &mut [f32],
+        outcome: &mut Outcome,
+    )
         requires ready { Ready self.now.layout.setup (block samples.old store.old outcome.old) }
         requires k_bound { k < tops_of self.now.layout.setup }
         requires orderly { Orderly self.now.layout.setup (block samples.old store.old outcome.old) (replicate (frames_of samples.old - get_or outcome.old.progress k 0) k) }

@@ -4,8 +4,8 @@ ghost use Rattle.chain.specs.Chain.{state};
 ghost use Rattle.chain.specs.Block.{block, answer_given, carried};
 ghost use Rattle.chain.specs.Run.{answer_on, rendered_of};
 
-use crate::run::Outcome;
 use crate::plan::Plan;
+use crate::run::Outcome;
 use answer::Refusal;
 use memories::{Memories, PLACES};
 use stage::setup::Setup;
