@@ -20,6 +20,7 @@ fn is_tangent(g: f64) -> bool
 }
 
 // The settings of a delay, except how many stages it owns.
+#[tactic(auto, using(crate::proofs::Contained::nat_le), unfolding(crate::specs::Range::delay_range))]
 fn delay_in_range(frames: u32, feedback: i32, mix: f32) -> bool
     ensures { result ≡ delay_range frames feedback mix }
 {
@@ -29,6 +30,7 @@ fn delay_in_range(frames: u32, feedback: i32, mix: f32) -> bool
 impl Stage {
     // Whether every setting of the stage is finite and in its range. How many stages a delay owns is not
     // looked at: that is refusal 3's concern.
+    #[tactic(auto, using(crate::proofs::Contained::int_le), unfolding(crate::specs::Range::in_range_of))]
     pub fn in_range(self) -> bool
         ensures { result ≡ in_range_of self }
     {

@@ -173,12 +173,9 @@ pub fn first_unknown(words: &[u64]) -> usize
     ensures { result ≡ first_of (λ i. decide (unknown_at words.now i)) (count_of words.now) }
 {
     let count = words.len() / WORDS;
-    for i in 0..count {
-        if !is_stage(stage_words(words, i)) {
-            return i;
-        }
-    }
-    count
+    (0..count)
+        .find(|&i| !is_stage(stage_words(words, i)))
+        .unwrap_or(count)
 }
 
 // The chain that the words are, at this rate. Stages past the 16th are counted and not kept, and fewer than
