@@ -129,4 +129,4 @@ module _ {t : ℕ → Bool} {n k : ℕ} (l : Looked t n k) where
   look_some h q = let e = look_found l h q in rw (some_hit t n k h q, ← e) refl
 
   pub look_none : n ≤ k → None ≡ found_of t n
-  look_none h = rw (some_none t n (λ j g. l.clear j (omega (arith, l.within)))) refl
+  look_none h = rw (le-ltb (first_of t n) n (omega (arith, look_over l h))) refl
