@@ -1,13 +1,12 @@
 // What a call answers: that it was accepted, or the first refusal that applies, with its place.
 #![tactic(auto)]
 
-ghost use Rattle.std.specs.Prelude.{◌≡◌};
-ghost use Rattle.answer.specs.Answer.{number_of, place_of, accepted_of};
+ghost use Rattle.std.specs.Prelude.{◌≡◌, Err};
+ghost use Rattle.answer.specs.Answer.{number_of, place_of};
 
-// Accepted, or one of document 01's eleven refusals with its place, which is 0 where none is written.
-#[derive(Clone, Copy)]
-pub enum Answer {
-    Accepted,
+// One of document 01's eleven refusals with its place, which is 0 where none is written.
+#[derive(Clone, Copy, Debug, PartialEq, Eq)]
+pub enum Refusal {
     // 1: the rate is below 8,000 or above 192,000
     Rate,
     // 2: more than 16 stages
@@ -32,49 +31,42 @@ pub enum Answer {
     Entry(usize),
 }
 
-// A refusal's number in document 01's table, and 0 for an accepted call.
-pub fn number(answer: Answer) -> u32
-    ensures { result ≡ number_of answer }
-{
-    match answer {
-        Answer::Accepted => 0,
-        Answer::Rate => 1,
-        Answer::Stages => 2,
-        Answer::Shape(_) => 3,
-        Answer::Setting(_) => 4,
-        Answer::Store(_) => 5,
-        Answer::Position(_) => 6,
-        Answer::Samples => 7,
-        Answer::Frames => 8,
-        Answer::Progress(_) => 9,
-        Answer::Sample(_) => 10,
-        Answer::Entry(_) => 11,
-    }
-}
+// What a call answers: accepted, or the first refusal that applies.
+pub type Answer = Result<(), Refusal>;
 
-// The place that document 01's table gives with a refusal, and 0 for an accepted call.
-pub fn place(answer: Answer) -> usize
-    ensures { result ≡ place_of answer }
-{
-    match answer {
-        Answer::Accepted => 0,
-        Answer::Rate => 0,
-        Answer::Stages => 0,
-        Answer::Shape(at) => at,
-        Answer::Setting(at) => at,
-        Answer::Store(needed) => needed,
-        Answer::Position(at) => at,
-        Answer::Samples => 0,
-        Answer::Frames => 0,
-        Answer::Progress(at) => at,
-        Answer::Sample(at) => at,
-        Answer::Entry(at) => at,
+impl Refusal {
+    // The refusal's number in document 01's table.
+    pub fn number(self) -> u32
+        ensures { result ≡ number_of (Err self) }
+    {
+        match self {
+            Refusal::Rate => 1,
+            Refusal::Stages => 2,
+            Refusal::Shape(_) => 3,
+            Refusal::Setting(_) => 4,
+            Refusal::Store(_) => 5,
+            Refusal::Position(_) => 6,
+            Refusal::Samples => 7,
+            Refusal::Frames => 8,
+            Refusal::Progress(_) => 9,
+            Refusal::Sample(_) => 10,
+            Refusal::Entry(_) => 11,
+        }
     }
-}
 
-// Whether the answer is no refusal.
-pub fn is_accepted(answer: Answer) -> bool
-    ensures { result ≡ accepted_of answer }
-{
-    number(answer) == 0
+    // The place that document 01's table gives with the refusal.
+    pub fn place(self) -> usize
+        ensures { result ≡ place_of (Err self) }
+    {
+        match self {
+            Refusal::Shape(at) => at,
+            Refusal::Setting(at) => at,
+            Refusal::Store(needed) => needed,
+            Refusal::Position(at) => at,
+            Refusal::Progress(at) => at,
+            Refusal::Sample(at) => at,
+            Refusal::Entry(at) => at,
+            Refusal::Rate | Refusal::Stages | Refusal::Samples | Refusal::Frames => 0,
+        }
+    }
 }

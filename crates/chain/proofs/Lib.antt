@@ -7,6 +7,5 @@ pub mod DemandsMet
 pub mod CutMet
 pub mod OneStep
 pub mod Turns
-pub mod OneOutcome
 pub mod TableMet
 pub mod PastMet

@@ -1,4 +1,5 @@
 pub mod Chain
+pub mod Block
 pub mod Run
 pub mod Demands
 pub mod Past

@@ -4,13 +4,12 @@ use Rattle.line.specs.Held.{Held}
 use Rattle.theory_order.specs.Chain.{State}
 use Rattle.theory_order.specs.Finish.{finishing}
 use Rattle.stage.specs.declared.setup.Setup.{Setup}
-use Rattle.answer.specs.declared.Answer.{Answer}
-use Rattle.answer.specs.Answer.{accepted_of}
+use Rattle.answer.specs.Answer.{Answer, accepted_of}
 use Rattle.top_stages.specs.Tops.{tops_of}
 use Rattle.refusals.specs.Refusals.{answer_of}
 use Rattle.chain.specs.Chain.{frames_of, ordered}
 
--- what a call with this order answers: the first refusal that applies, or `Accepted`
+-- what a call with this order answers: the first refusal that applies, or `accepted`
 abbrev pub answer_on : Setup → State Float Held → List ℕ → Answer
 answer_on setup s order = answer_of setup (length s.held.store) s.samples s.held.positions s.progress order
 

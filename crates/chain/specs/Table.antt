@@ -12,8 +12,7 @@ use Rattle.memories.specs.Sizes.{all_positions, all_floats}
 use Rattle.stage.specs.declared.setup.Setup.{Setup}
 use Rattle.stage.specs.Setup.{used_of}
 use Rattle.line_layout.specs.Layout.{needed_of}
-use Rattle.answer.specs.declared.Answer.TheVariants.{Accepted}
-use Rattle.answer.specs.Answer.{number_of, place_of, accepted_of}
+use Rattle.answer.specs.Answer.{accepted, number_of, place_of, accepted_of}
 use Rattle.refusals.specs.Refusals.{chain_rows, refusal_rows, chain_answer}
 use Rattle.chain.specs.Chain.{ordered}
 use Rattle.chain.specs.Run.{answer_on, leaves_of, rendered_of}
@@ -23,7 +22,7 @@ use Rattle.fresh_start.specs.Start.{started_of, start_memories}
 -- changes no sample, line, memory or progress"
 pub record Tabled (setup : Setup) (s : State Float Held) (order : List ℕ) : Type 0 where
   pub answer : ByTheTable number_of place_of
-      (refusal_rows setup (length s.held.store) s.samples s.held.positions s.progress order) Accepted
+      (refusal_rows setup (length s.held.store) s.samples s.held.positions s.progress order) accepted
       (answer_on setup s order)
   pub unchanged : accepted_of (answer_on setup s order) ≡ false → leaves_of setup s order ≡ s
   -- "what meets none of document 01's eleven refusals is rendered": the order is run, entry by entry
@@ -47,7 +46,7 @@ plus_zero = of_bits binary32 0
 
 -- "a fresh start makes checks 1 to 5, then clears the needed floats"; refused, it changes no float
 pub record StartTabled (setup : Setup) (store : List Float) : Type 0 where
-  pub answer : ByTheTable number_of place_of (chain_rows setup (needed_of setup) (length store)) Accepted
+  pub answer : ByTheTable number_of place_of (chain_rows setup (needed_of setup) (length store)) accepted
       (chain_answer setup (needed_of setup) (length store))
   pub unchanged :
       accepted_of (chain_answer setup (needed_of setup) (length store)) ≡ false → started_of setup store ≡ store

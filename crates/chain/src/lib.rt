@@ -4,7 +4,6 @@
 // is refused, and then nothing changes.
 #![tactic(auto)]
 
-mod advance;
-mod drive;
+mod plan;
 pub mod render;
 pub mod run;

@@ -1,10 +1,12 @@
 // Rendering to the last frame, for callers who do not care about orders.
 ghost use Rattle.std.specs.Prelude.{◌≡◌, []};
 ghost use Rattle.chain.specs.Chain.{state};
+ghost use Rattle.chain.specs.Block.{block, answer_given, carried};
 ghost use Rattle.chain.specs.Run.{answer_on, rendered_of};
 
-use crate::drive::drive;
 use crate::run::Outcome;
+use crate::plan::Plan;
+use answer::Refusal;
 use memories::{Memories, PLACES};
 use stage::setup::Setup;
 
@@ -16,11 +18,13 @@ pub fn render(
     memories: Memories,
     store: &mut [f32],
     progress: [usize; PLACES],
-) -> Outcome
-    ensures answer { result.answer ≡ answer_on setup (state samples.old store.old memories.positions memories.floats progress) [] }
-    ensures leaves { state samples.new store.new result.memories.positions result.memories.floats result.progress
+) -> Result<Outcome, Refusal>
+    ensures answer { answer_given result ≡ answer_on setup (state samples.old store.old memories.positions memories.floats progress) [] }
+    ensures leaves { block samples.new store.new (carried memories progress result)
         ≡ rendered_of setup (state samples.old store.old memories.positions memories.floats progress) }
 {
-    let none = [0; 0];
-    drive(setup, samples, memories, store, progress, &none, true)
+    let mut outcome = Outcome { memories, progress };
+    let plan = Plan::accepted(setup, samples, store, &outcome, &[])?;
+    plan.finish(samples, store, &mut outcome);
+    Ok(outcome)
 }

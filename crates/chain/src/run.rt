@@ -1,18 +1,18 @@
 // Steps of top stages in a given order.
 ghost use Rattle.std.specs.Prelude.{◌≡◌};
 ghost use Rattle.chain.specs.Chain.{state};
+ghost use Rattle.chain.specs.Block.{block, answer_given, carried};
 ghost use Rattle.chain.specs.Run.{answer_on, leaves_of};
 
-use crate::drive::drive;
-use answer::Answer;
+use crate::plan::Plan;
+use answer::Refusal;
 use memories::{Memories, PLACES};
 use stage::setup::Setup;
 
-// What a call gives back: its answer, and the memories and progress after it. Where the call is refused,
-// these are what was passed in.
+// What an accepted call gives back: the memories and the progress after it. Of a refused call the caller
+// still has what was passed in.
 #[derive(Clone, Copy)]
 pub struct Outcome {
-    pub answer: Answer,
     pub memories: Memories,
     pub progress: [usize; PLACES],
 }
@@ -26,10 +26,13 @@ pub fn run(
     store: &mut [f32],
     progress: [usize; PLACES],
     order: &[usize],
-) -> Outcome
-    ensures answer { result.answer ≡ answer_on setup (state samples.old store.old memories.positions memories.floats progress) order.now }
-    ensures leaves { state samples.new store.new result.memories.positions result.memories.floats result.progress
+) -> Result<Outcome, Refusal>
+    ensures answer { answer_given result ≡ answer_on setup (state samples.old store.old memories.positions memories.floats progress) order.now }
+    ensures leaves { block samples.new store.new (carried memories progress result)
         ≡ leaves_of setup (state samples.old store.old memories.positions memories.floats progress) order.now }
 {
-    drive(setup, samples, memories, store, progress, order, false)
+    let mut outcome = Outcome { memories, progress };
+    let plan = Plan::accepted(setup, samples, store, &outcome, order)?;
+    plan.advance_all(order, samples, store, &mut outcome);
+    Ok(outcome)
 }

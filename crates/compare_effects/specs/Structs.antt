@@ -1,5 +1,6 @@
 -- From the structs of this crate, which C can read, to those of `frame`, `integrators` and `filters`, and back: the
 -- same numbers under the same names. Definitions only.
+use Rattle.std.specs.Prelude.{Float}
 use Rattle.frame.specs.declared.Frame.{Frame}
 use Rattle.integrators.specs.declared.Integrators.{Integrators}
 use Rattle.integrators.specs.declared.Filtered.{Filtered}
@@ -23,17 +24,16 @@ pair_out f = record { left = f.left; right = f.right }
 abbrev pub integrators_in : Memory → Integrators
 integrators_in m = record { ic1eq = pair_in m.ic1eq; ic2eq = pair_in m.ic2eq }
 
+-- the two remembered frames, as a filter or an EQ gives them
+abbrev pub integrators_out : Integrators → Memory
+integrators_out i = record { ic1eq = pair_out i.ic1eq; ic2eq = pair_out i.ic2eq }
+
 -- what a filter or an EQ gives
 abbrev pub processed_out : Filtered → Processed
-processed_out f =
-    let after = f.after in
-    record {
-      output = pair_out f.output;
-      after = record { ic1eq = pair_out after.ic1eq; ic2eq = pair_out after.ic2eq };
-    }
+processed_out f = record { output = pair_out f.output; after = integrators_out f.after }
 
 -- the weights a1, a2 and a3
-abbrev pub weights_out : Weights → Three
+abbrev pub weights_out : Weights Float → Three
 weights_out w = record { a1 = w.a1; a2 = w.a2; a3 = w.a3 }
 
 -- an EQ's six coefficients

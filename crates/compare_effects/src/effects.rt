@@ -8,11 +8,11 @@ ghost use Rattle.integrators.specs.Integrators.{weights_of};
 ghost use Rattle.filters.specs.Filter.{filter_of};
 ghost use Rattle.filters.specs.EqFilter.{coefficients_of, eq_of};
 ghost use Rattle.kind_codes.specs.Codes.{clip_at, mode_at, eq_kind_at};
-ghost use Rattle.compare_effects.specs.Structs.{pair_in, pair_out, integrators_in, processed_out, weights_out, coefficients_out};
+ghost use Rattle.compare_effects.specs.Structs.{pair_in, pair_out, integrators_in, integrators_out, processed_out, weights_out, coefficients_out};
 
 use filters::eq_filter::Coefficients;
 use frame::Frame;
-use integrators::{Filtered, Integrators};
+use integrators::{Filtered, Integrators, Weights};
 use kind_codes::{clip_at, eq_kind_at, mode_at};
 
 // A frame.
@@ -60,57 +60,85 @@ pub struct Six {
     pub m2: f64,
 }
 
-fn pair_in(pair: Pair) -> Frame
-    ensures { result ≡ pair_in pair }
-{
-    Frame {
-        left: pair.left,
-        right: pair.right,
+impl From<Pair> for Frame {
+    ghost from_gives = { λ pair frame. frame ≡ pair_in pair };
+
+    fn from(pair: Pair) -> Frame {
+        Frame {
+            left: pair.left,
+            right: pair.right,
+        }
     }
 }
 
-fn pair_out(frame: Frame) -> Pair
-    ensures { result ≡ pair_out frame }
-{
-    Pair {
-        left: frame.left,
-        right: frame.right,
+impl From<Frame> for Pair {
+    ghost from_gives = { λ frame pair. pair ≡ pair_out frame };
+
+    fn from(frame: Frame) -> Pair {
+        Pair {
+            left: frame.left,
+            right: frame.right,
+        }
     }
 }
 
-fn integrators_in(memory: Memory) -> Integrators
-    ensures { result ≡ integrators_in memory }
-{
-    Integrators {
-        ic1eq: Frame {
-            left: memory.ic1eq.left,
-            right: memory.ic1eq.right,
-        },
-        ic2eq: Frame {
-            left: memory.ic2eq.left,
-            right: memory.ic2eq.right,
-        },
+impl From<Memory> for Integrators {
+    ghost from_gives = { λ memory integrators. integrators ≡ integrators_in memory };
+
+    fn from(memory: Memory) -> Integrators {
+        Integrators {
+            ic1eq: memory.ic1eq.into(),
+            ic2eq: memory.ic2eq.into(),
+        }
     }
 }
 
-fn processed_out(filtered: Filtered) -> Processed
-    ensures { result ≡ processed_out filtered }
-{
-    Processed {
-        output: Pair {
-            left: filtered.output.left,
-            right: filtered.output.right,
-        },
-        after: Memory {
-            ic1eq: Pair {
-                left: filtered.after.ic1eq.left,
-                right: filtered.after.ic1eq.right,
-            },
-            ic2eq: Pair {
-                left: filtered.after.ic2eq.left,
-                right: filtered.after.ic2eq.right,
-            },
-        },
+impl From<Integrators> for Memory {
+    ghost from_gives = { λ integrators memory. memory ≡ integrators_out integrators };
+
+    fn from(integrators: Integrators) -> Memory {
+        Memory {
+            ic1eq: integrators.ic1eq.into(),
+            ic2eq: integrators.ic2eq.into(),
+        }
+    }
+}
+
+impl From<Filtered> for Processed {
+    ghost from_gives = { λ filtered processed. processed ≡ processed_out filtered };
+
+    fn from(filtered: Filtered) -> Processed {
+        Processed {
+            output: filtered.output.into(),
+            after: filtered.after.into(),
+        }
+    }
+}
+
+impl From<Weights<f64>> for Three {
+    ghost from_gives = { λ weights three. three ≡ weights_out weights };
+
+    fn from(weights: Weights<f64>) -> Three {
+        Three {
+            a1: weights.a1,
+            a2: weights.a2,
+            a3: weights.a3,
+        }
+    }
+}
+
+impl From<Coefficients> for Six {
+    ghost from_gives = { λ coefficients six. six ≡ coefficients_out coefficients };
+
+    fn from(coefficients: Coefficients) -> Six {
+        Six {
+            a1: coefficients.a1,
+            a2: coefficients.a2,
+            a3: coefficients.a3,
+            m0: coefficients.m0,
+            m1: coefficients.m1,
+            m2: coefficients.m2,
+        }
     }
 }
 
@@ -119,7 +147,7 @@ fn processed_out(filtered: Filtered) -> Processed
 pub extern "C" fn sedhavil_volume_control(input: Pair, volume: i32) -> Pair
     ensures { result ≡ pair_out (volume_of volume (pair_in input)) }
 {
-    pair_out(plain_effects::volume_control::process(pair_in(input), volume))
+    plain_effects::volume_control::process(input.into(), volume).into()
 }
 
 // `plain_effects::panning_control::process`: one frame.
@@ -127,7 +155,7 @@ pub extern "C" fn sedhavil_volume_control(input: Pair, volume: i32) -> Pair
 pub extern "C" fn sedhavil_panning_control(input: Pair, panning: f32) -> Pair
     ensures { result ≡ pair_out (panning_of panning (pair_in input)) }
 {
-    pair_out(plain_effects::panning_control::process(pair_in(input), panning))
+    plain_effects::panning_control::process(input.into(), panning).into()
 }
 
 // `plain_effects::distortion::process`: one frame, its kind by the number of `kind_codes::clip_at`.
@@ -135,7 +163,7 @@ pub extern "C" fn sedhavil_panning_control(input: Pair, panning: f32) -> Pair
 pub extern "C" fn sedhavil_distortion(input: Pair, kind: u32, drive: i32, mix: f32) -> Pair
     ensures { result ≡ pair_out (distortion_of (clip_at kind) drive mix (pair_in input)) }
 {
-    pair_out(plain_effects::distortion::process(pair_in(input), clip_at(kind as u64), drive, mix))
+    plain_effects::distortion::process(input.into(), clip_at(kind as u64), drive, mix).into()
 }
 
 // `filters::filter::process`: one frame, its mode by the number of `kind_codes::mode_at`.
@@ -150,14 +178,15 @@ pub extern "C" fn sedhavil_filter(
 ) -> Processed
     ensures { result ≡ processed_out (filter_of (mode_at mode) g resonance mix (integrators_in memory) (pair_in input)) }
 {
-    processed_out(filters::filter::process(
-        pair_in(input),
-        integrators_in(memory),
+    filters::filter::process(
+        input.into(),
+        memory.into(),
         mode_at(mode as u64),
         g,
         resonance,
         mix,
-    ))
+    )
+    .into()
 }
 
 // `filters::eq_filter::process`: one frame, its kind by the number of `kind_codes::eq_kind_at`.
@@ -172,14 +201,15 @@ pub extern "C" fn sedhavil_eq_filter(
 ) -> Processed
     ensures { result ≡ processed_out (eq_of (eq_kind_at kind) g q gain (integrators_in memory) (pair_in input)) }
 {
-    processed_out(filters::eq_filter::process(
-        pair_in(input),
-        integrators_in(memory),
+    filters::eq_filter::process(
+        input.into(),
+        memory.into(),
         eq_kind_at(kind as u64),
         g,
         q,
         gain,
-    ))
+    )
+    .into()
 }
 
 // `integrators::weigh`: a1, a2 and a3 out of g and k.
@@ -187,12 +217,7 @@ pub extern "C" fn sedhavil_eq_filter(
 pub extern "C" fn sedhavil_weigh(g: f64, k: f64) -> Three
     ensures { result ≡ weights_out (weights_of g k) }
 {
-    let w = integrators::weigh(g, k);
-    Three {
-        a1: w.a1,
-        a2: w.a2,
-        a3: w.a3,
-    }
+    integrators::weigh(g, k).into()
 }
 
 // `Coefficients::calculate` of `filters::eq_filter`, its kind by the number of `kind_codes::eq_kind_at`.
@@ -200,13 +225,5 @@ pub extern "C" fn sedhavil_weigh(g: f64, k: f64) -> Three
 pub extern "C" fn sedhavil_coefficients(kind: u32, g: f64, q: f64, gain: i32) -> Six
     ensures { result ≡ coefficients_out (coefficients_of (eq_kind_at kind) g q gain) }
 {
-    let c = Coefficients::calculate(eq_kind_at(kind as u64), g, q, gain);
-    Six {
-        a1: c.a1,
-        a2: c.a2,
-        a3: c.a3,
-        m0: c.m0,
-        m1: c.m1,
-        m2: c.m2,
-    }
+    Coefficients::calculate(eq_kind_at(kind as u64), g, q, gain).into()
 }

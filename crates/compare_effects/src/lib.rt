@@ -12,20 +12,20 @@ ghost use Rattle.decibels.specs.Amplitude.{amplitude_of, eq_amplitude_of};
 
 pub mod effects;
 
-// `rounding::sqrt::sqrt_f32`, to compare with `f32::sqrt`.
+// `rounding::sqrt::sqrt`, to compare with `f32::sqrt`.
 #[unsafe(no_mangle)]
 pub extern "C" fn sedhavil_sqrt_f32(x: f32) -> f32
     ensures { result ≡ sqrt_of binary32 x }
 {
-    rounding::sqrt::sqrt_f32(x)
+    rounding::sqrt::sqrt::<f32>(x)
 }
 
-// `rounding::sqrt::sqrt_f64`, to compare with `f64::sqrt`.
+// `rounding::sqrt::sqrt`, to compare with `f64::sqrt`.
 #[unsafe(no_mangle)]
 pub extern "C" fn sedhavil_sqrt_f64(x: f64) -> f64
     ensures { result ≡ sqrt_of binary64 x }
 {
-    rounding::sqrt::sqrt_f64(x)
+    rounding::sqrt::sqrt::<f64>(x)
 }
 
 // `rounding::narrow::as_f32`, to compare with `as f32`.
@@ -36,44 +36,44 @@ pub extern "C" fn sedhavil_as_f32(x: f64) -> f32
     rounding::narrow::as_f32(x)
 }
 
-// `float::clamp::abs_f32`, to compare with `f32::abs`.
+// `float::clamp::abs`, to compare with `f32::abs`.
 #[unsafe(no_mangle)]
 pub extern "C" fn sedhavil_abs_f32(x: f32) -> f32
     ensures { result ≡ abs_of x }
 {
-    float::clamp::abs_f32(x)
+    float::clamp::abs(x)
 }
 
-// `float::clamp::clamp_unit_f32`, to compare with `x.clamp(0.0, 1.0)`.
+// `float::clamp::clamp_unit`, to compare with `x.clamp(0.0, 1.0)`.
 #[unsafe(no_mangle)]
 pub extern "C" fn sedhavil_clamp_unit_f32(x: f32) -> f32
     ensures { result ≡ unit_of binary32 x }
 {
-    float::clamp::clamp_unit_f32(x)
+    float::clamp::clamp_unit::<f32>(x)
 }
 
-// `float::clamp::clamp_unit_f64`, to compare with `x.clamp(0.0, 1.0)`.
+// `float::clamp::clamp_unit`, to compare with `x.clamp(0.0, 1.0)`.
 #[unsafe(no_mangle)]
 pub extern "C" fn sedhavil_clamp_unit_f64(x: f64) -> f64
     ensures { result ≡ unit_of binary64 x }
 {
-    float::clamp::clamp_unit_f64(x)
+    float::clamp::clamp_unit::<f64>(x)
 }
 
-// `float::clamp::clamp_signed_unit_f32`, to compare with `x.clamp(-1.0, 1.0)`.
+// `float::clamp::clamp_signed_unit`, to compare with `x.clamp(-1.0, 1.0)`.
 #[unsafe(no_mangle)]
 pub extern "C" fn sedhavil_clamp_signed_unit_f32(x: f32) -> f32
     ensures { result ≡ signed_unit_of binary32 x }
 {
-    float::clamp::clamp_signed_unit_f32(x)
+    float::clamp::clamp_signed_unit(x)
 }
 
-// `float::clamp::at_least_hundredth_f64`, to compare with `x.max(0.01)`.
+// `float::clamp::at_least_hundredth`, to compare with `x.max(0.01)`.
 #[unsafe(no_mangle)]
 pub extern "C" fn sedhavil_at_least_hundredth_f64(x: f64) -> f64
     ensures { result ≡ hundredth_of x }
 {
-    float::clamp::at_least_hundredth_f64(x)
+    float::clamp::at_least_hundredth(x)
 }
 
 // `decibels::amplitude`, to compare with kira's `as_amplitude`.

@@ -5,7 +5,7 @@
 ghost use Rattle.std.specs.Prelude.{◌≡◌};
 ghost use Rattle.decibels.specs.Amplitude.{amplitude_of, eq_amplitude_of};
 
-use float::bits::{from_bits_f32, from_bits_f64};
+use float::bits::from_bits;
 
 // The bits of the f32 nearest to 10^(k/20), for k from -59 to 24.
 const AMPLITUDES: [u32; 84] = [
@@ -160,7 +160,7 @@ pub fn amplitude(db: i32) -> f32
         return 0.0 / 0.0;
     }
     let place = (db + 59) as usize;
-    from_bits_f32(AMPLITUDES[place])
+    from_bits(AMPLITUDES[place])
 }
 
 // The amplitude that an EQ works with: the f64 nearest to 10^(gain/40), for a gain in whole dB. A gain
@@ -175,5 +175,5 @@ pub fn eq_amplitude(gain: i32) -> f64
         return 0.0 / 0.0;
     }
     let place = (gain + 24) as usize;
-    from_bits_f64(EQ_AMPLITUDES[place])
+    from_bits(EQ_AMPLITUDES[place])
 }

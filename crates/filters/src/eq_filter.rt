@@ -5,11 +5,11 @@ ghost use Rattle.filters.specs.EqFilter.{bell_of, low_shelf_of, high_shelf_of, c
 
 use crate::narrowed::run_narrowed;
 use decibels::eq_amplitude;
-use float::clamp::at_least_hundredth_f64;
+use float::clamp::at_least_hundredth;
 use frame::Frame;
 use integrators::{Filtered, Integrators, Parts, Stepped, Weights, weigh};
 use rounding::narrow::as_f32;
-use rounding::sqrt::sqrt_f64;
+use rounding::sqrt::sqrt;
 
 // kira's `EqFilterKind`: the gain applies around a frequency (bell), around and below it (low shelf) or
 // around and above it (high shelf).
@@ -50,7 +50,7 @@ fn low_shelf(g: f64, q: f64, a: f64) -> Coefficients
     ensures { result ≡ low_shelf_of g q a }
 {
     let k = 1.0 / q;
-    let Weights { a1, a2, a3 } = weigh(g / sqrt_f64(a), k);
+    let Weights { a1, a2, a3 } = weigh(g / sqrt(a), k);
     Coefficients {
         a1,
         a2,
@@ -65,7 +65,7 @@ fn high_shelf(g: f64, q: f64, a: f64) -> Coefficients
     ensures { result ≡ high_shelf_of g q a }
 {
     let k = 1.0 / q;
-    let Weights { a1, a2, a3 } = weigh(g * sqrt_f64(a), k);
+    let Weights { a1, a2, a3 } = weigh(g * sqrt(a), k);
     Coefficients {
         a1,
         a2,
@@ -83,7 +83,7 @@ impl Coefficients {
     pub fn calculate(kind: EqFilterKind, g: f64, q: f64, gain: i32) -> Self
         ensures { result ≡ coefficients_of kind g q gain }
     {
-        let q = at_least_hundredth_f64(q);
+        let q = at_least_hundredth(q);
         let a = eq_amplitude(gain);
         match kind {
             EqFilterKind::Bell => bell(g, q, a),

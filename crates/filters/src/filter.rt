@@ -4,7 +4,7 @@ ghost use Rattle.std.specs.Prelude.{◌≡◌};
 ghost use Rattle.filters.specs.Filter.{output_of, filter_of};
 
 use crate::narrowed::run_narrowed;
-use float::clamp::clamp_unit_f64;
+use float::clamp::clamp_unit;
 use frame::Frame;
 use integrators::{Filtered, Integrators, Parts, Stepped, weigh};
 use rounding::narrow::as_f32;
@@ -44,7 +44,7 @@ pub fn process(
 ) -> Filtered
     ensures { result ≡ filter_of mode g resonance mix memory input }
 {
-    let k = 2.0 - 1.9 * clamp_unit_f64(resonance);
+    let k = 2.0 - 1.9 * clamp_unit(resonance);
     let Stepped { parts, after } = run_narrowed(memory, input, weigh(g, k));
     let wet = output(mode, input, parts, as_f32(k));
     Filtered {

@@ -1,5 +1,6 @@
 pub mod Fields
 pub mod Zero
+pub mod Order
 pub mod Nan
 pub mod Patterns
 pub mod Clamps

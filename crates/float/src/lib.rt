@@ -6,3 +6,4 @@
 pub mod bits;
 pub mod clamp;
 pub mod finite;
+pub mod floating;

@@ -8,8 +8,8 @@ ghost use Rattle.frame.specs.Operations.{zero_frame, new_of, from_mono_of, as_mo
 ghost use Rattle.frame.specs.Mix.{mix_of};
 ghost use Rattle.frame.specs.Panning.{panned_of};
 
-use float::clamp::{clamp_signed_unit_f32, clamp_unit_f32};
-use rounding::sqrt::sqrt_f32;
+use float::clamp::{clamp_signed_unit, clamp_unit};
+use rounding::sqrt::sqrt;
 
 // kira's `Frame`: a left and a right sample, any two floats, NaN and infinities included.
 #[derive(Clone, Copy)]
@@ -108,9 +108,9 @@ impl Frame {
     pub fn mixed(self, dry: Frame, mix: f32) -> Self
         ensures { result ≡ mix_of self dry mix }
     {
-        let clamped = clamp_unit_f32(mix);
-        let wet = self.mul(sqrt_f32(clamped));
-        wet.add(dry.mul(sqrt_f32(1.0 - clamped)))
+        let clamped = clamp_unit(mix);
+        let wet = self.mul(sqrt(clamped));
+        wet.add(dry.mul(sqrt(1.0 - clamped)))
     }
 
     // kira's `Frame::panned`, from -1 (left) to 1 (right). A panning equal to 0 (also -0) returns the
@@ -121,10 +121,10 @@ impl Frame {
         if panning == 0.0 {
             return self;
         }
-        let left_right_mix = (clamp_signed_unit_f32(panning) + 1.0) * 0.5;
+        let left_right_mix = (clamp_signed_unit(panning) + 1.0) * 0.5;
         let sides = Frame {
-            left: self.left * sqrt_f32(1.0 - left_right_mix),
-            right: self.right * sqrt_f32(left_right_mix),
+            left: self.left * sqrt(1.0 - left_right_mix),
+            right: self.right * sqrt(left_right_mix),
         };
         sides.mul(1.4142135)
     }

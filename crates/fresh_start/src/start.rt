@@ -5,8 +5,8 @@ ghost use Rattle.line_layout.specs.Layout.{needed_of};
 ghost use Rattle.refusals.specs.Refusals.{chain_answer};
 ghost use Rattle.fresh_start.specs.Start.{cleared_to, start_memories, started_of};
 
-use answer::{Answer, is_accepted};
-use line_layout::starts::needed;
+use answer::Answer;
+use line_layout::layout::needed;
 use memories::Memories;
 use refusals::chain::check_chain;
 use stage::setup::Setup;
@@ -23,11 +23,7 @@ fn clear(store: &mut [f32], n: usize)
     requires { n ≤ length store.old }
     ensures { store.new ≡ cleared_to n store.old }
 {
-    let mut i = 0;
-    while i < n {
-        store[i] = 0.0;
-        i += 1;
-    }
+    store[..n].fill(0.0);
 }
 
 // Makes checks 1 to 5 and, where none refuses, sets the floats that the chain needs to +0. Floats past
@@ -37,13 +33,9 @@ pub fn start(setup: Setup, store: &mut [f32]) -> Started
     ensures leaves { store.new ≡ started_of setup store.old }
 {
     let floats = needed(setup);
-    let answer = check_chain(setup, floats, store.len());
-    if is_accepted(answer) {
+    let answer = check_chain(&setup, floats, store.len());
+    if answer.is_ok() {
         clear(store, floats);
-        return Started {
-            answer,
-            memories: memories::zero(),
-        };
     }
     Started {
         answer,

@@ -16,6 +16,7 @@ pub struct Layout {
 
 impl Layout {
     // The chain, laid out.
+    #[tactic(auto, using(crate::proofs::LineStarts::start_more, stage::proofs::Listed::listed_more), unfolding(crate::specs::Layout::start_of))]
     pub fn of(setup: Setup) -> Layout
         ensures setup { result.setup ≡ setup }
         ensures starts { result.starts ≡ starts_of setup }
@@ -28,6 +29,7 @@ impl Layout {
     }
 
     // How many floats the lines of places i to e - 1 have, by the list of starts.
+    #[tactic(auto, unfolding(crate::specs::Layout::size_of))]
     pub fn size_between(&self, i: usize, e: usize) -> usize
         ensures { result ≡ size_of self.now.starts i e }
     {
@@ -36,6 +38,7 @@ impl Layout {
 }
 
 // How many floats the store must have: the sum of all lines.
+#[tactic(auto, using(crate::proofs::LineStarts::starts_at))]
 pub fn needed(setup: Setup) -> usize
     ensures { result ≡ needed_of setup }
 {

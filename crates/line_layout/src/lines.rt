@@ -9,6 +9,7 @@ use reverb_tuning::{LINES, reverb_floats, reverb_line};
 use stage::kind::{Lines, Stage};
 
 // How many floats the stage's lines have, without those of the stages that it owns.
+#[tactic(auto, using(reverb_tuning::proofs::Tunings::reverb_within, reverb_tuning::proofs::Tunings::floats_are), unfolding(crate::specs::Lines::floats_of))]
 pub fn floats_of(rate: u32, stage: Stage) -> usize
     ensures { (result ≡ floats_of rate stage) × (result ≤ line_count * 0x1_0000_0000) }
 {
@@ -29,6 +30,7 @@ fn reverb_lost(rate: u32, positions: &[usize]) -> bool
 
 // Whether one of the place's remembered positions is not below its line's length, a delay's in frames. A
 // missing position counts as 0.
+#[tactic(auto, unfolding(crate::specs::Lines::lengths_of, theory_tables::specs::First::first_from))]
 pub fn is_lost(rate: u32, stage: Stage, positions: &[usize]) -> bool
     ensures { result ≡ decide (lost_of rate stage positions.now) }
 {

@@ -1,30 +1,36 @@
--- The check of an order, entry by entry: an entry is stuck exactly where the rule that it breaks has a number, and the loop that counts progress and looks for the first such entry. Assumes nothing.
+-- The check of an order, entry by entry: an entry is stuck exactly where it breaks a rule, and the loop that counts progress and looks for the first such entry. Assumes nothing.
 use mathlib.Core.Path.{◌≡◌, refl, ap, sym, ◌∙◌}
-use mathlib.Core.Logic.{◌≢◌}
-use mathlib.Core.Bool.{Bool, true, false, cond, not, ◌||◌}
-use mathlib.Core.List.{List}
-use Prim.Native.Nat.{ℕ, ◌+◌, ◌-◌, ◌≤◌, ◌<◌}
+use mathlib.Core.Bool.{Bool, true, false, cond, ◌||◌, true≢false}
+use mathlib.Core.List.{List, ◌∷◌}
+use Prim.Native.Nat.{ℕ, ◌+◌, ◌-◌, ◌<◌}
 use native.Mathlib.Omega.{arith}
 use native.Mathlib.Nat.{lt_of_not-le}
 use native.Mathlib.Numerals.{add-one}
-use lib.Dec.{eqb}
 use lib.ListN.{length, get_or, take, drop, length-drop}
-use lib.Seq.{take_all, take-suc, get_or-drop, drop-drop}
-use borrow.Author.Tests.{eq-eqb, ne_eqb}
+use lib.Seq.{take-suc, get_or-drop, drop-drop}
+use Rattle.std.specs.Prelude.{Result, Ok, Err, ⊤}
+use Rattle.std.specs.Result.{is_err}
 use Rattle.theory_order.specs.Order.{run}
 use Rattle.theory_order.proofs.Orders.{run_append}
-use Rattle.theory_tables.specs.First.{first_of}
 use Rattle.theory_tables.specs.Condition.{decide}
 use Rattle.theory_tables.specs.Rows.{first_row}
-use Rattle.theory_tables.proofs.Firsts.{Looked, look_start, look_on, look_found, look_over}
+use Rattle.theory_tables.proofs.Firsts.{Looked, look_start, look_on, look_some, look_none}
 use Rattle.theory_tables.proofs.Tables.{no_row}
-use Rattle.order_entries.specs.declared.Rule.TheVariants.{Unbroken, NoStage, AtEnd, Level}
-use Rattle.order_entries.specs.Entries.{no_stage, at_end, level_with_before, entry_rows, rule_number, rule_of, tick, stuck}
+use Rattle.theory_tables.proofs.Tested.{Gives, row_found, row_not_found, row_none}
+use Rattle.answer.specs.declared.Refusal.TheVariants.{Entry}
+use Rattle.answer.specs.Answer.{accepted}
+use Rattle.order_entries.specs.declared.Rule.{Rule}
+use Rattle.order_entries.specs.declared.Rule.TheVariants.{NoStage, AtEnd, Level}
+use Rattle.order_entries.specs.Entries.{no_stage, at_end, level_with_before, unbroken, entry_rows, rule_number, rule_of, tick, stuck, order_rows, order_answer}
+
+kept : (rule : Result ⊤ Rule) → is_err rule ≡ false → rule_number rule ≡ 0
+kept (Ok nothing) h = refl
+kept (Err rule) h = absurd (true≢false h)
 
 -- a stage that may be run has a frame left
-pub kept_room : (tops frames : ℕ) (progress : List ℕ) (k : ℕ) → rule_number (rule_of tops frames progress k) ≡ 0 → get_or progress k 0 < frames
+pub kept_room : (tops frames : ℕ) (progress : List ℕ) (k : ℕ) → is_err (rule_of tops frames progress k) ≡ false → get_or progress k 0 < frames
 unfolding rule_of
-kept_room tops frames progress k e = lt_of_not-le (no_row rule_number (λ rule. 0) Unbroken (entry_rows tops frames progress k) (omega arith) e).1.0
+kept_room tops frames progress k h = lt_of_not-le (no_row rule_number (λ rule. 0) unbroken (entry_rows tops frames progress k) (omega arith) (kept _ h)).1.0
 
 module _ (tops frames : ℕ) (progress order : List ℕ) where
   -- the progress when i entries are counted
@@ -34,15 +40,19 @@ module _ (tops frames : ℕ) (progress order : List ℕ) where
   abbrev test : ℕ → Bool
   test i = decide (stuck tops frames progress order i)
 
-  pub stuck_numbered : (i : ℕ) → test i ≡ not (eqb (rule_number (rule_of tops frames (at i) (get_or order i 0))) 0)
+  stuck_ruled : (i : ℕ) → test i ≡ is_err (rule_of tops frames (at i) (get_or order i 0))
   unfolding stuck rule_of first_row
-  stuck_numbered i = let k = get_or order i 0 in go (decide (no_stage tops k)) (decide (at_end frames (at i) k)) (decide (level_with_before (at i) k))
+  stuck_ruled i = let k = get_or order i 0 in go (decide (no_stage tops k)) (decide (at_end frames (at i) k)) (decide (level_with_before (at i) k))
     where
-      go : (a b c : Bool) → (a || b || c) ≡ not (eqb (rule_number (cond a NoStage (cond b AtEnd (cond c Level Unbroken)))) 0)
+      go : (a b c : Bool) → (a || b || c) ≡ is_err (cond a (Err NoStage) (cond b (Err AtEnd) (cond c (Err Level) unbroken)))
       go true b c = refl
       go false true c = refl
       go false false true = refl
       go false false false = refl
+
+  table : Gives (order_rows tops frames progress order) accepted (order_answer tops frames progress order)
+  unfolding order_answer
+  table = record { same = refl }
 
   -- ---- so many entries are read, none of which is stuck: this is the progress then, and these are unread
   pub record Counted (counted unread : List ℕ) : Type 0 where
@@ -58,28 +68,31 @@ module _ (tops frames : ℕ) (progress order : List ℕ) where
     pub count_unread : length unread ≡ length order - s.read
     count_unread = rw s.rest (length-drop s.read order)
 
-    -- of the rule that the first unread entry breaks
-    abbrev pub number : ℕ
-    number = rule_number (rule_of tops frames counted (get_or unread 0 0))
+    pub count_over : length unread ≡ 0 → accepted ≡ order_answer tops frames progress order
+    count_over h = row_none (row_not_found table (look_none s.looked (omega (arith, count_unread))))
 
-    here : get_or unread 0 0 ≡ get_or order s.read 0
-    here = let e : s.read + 0 ≡ s.read = omega arith in rw (s.rest, get_or-drop, e)
+  -- the first unread entry is k
+  module _ {counted unread rest : List ℕ} {k : ℕ} (e : unread ≡ k ∷ rest) (s : Counted counted unread) where
+    more : s.read < length order
+    more = omega (arith, count_unread s, ap (length {A = ℕ}) e)
 
-    tested : test s.read ≡ not (eqb number 0)
-    tested = rw (here, s.counts) (stuck_numbered s.read)
+    here : k ≡ get_or order s.read 0
+    here =
+        let q : s.read + 0 ≡ s.read = omega arith in
+        sym (ap (λ (xs : List ℕ). get_or xs 0 0) (sym s.rest ∙ e)) ∙ get_or-drop s.read order 0 0 ∙ ap (λ i. get_or order i 0) q
 
-    pub count_found : 0 < length unread → number ≢ 0 → length order - length unread ≡ first_of test (length order)
-    count_found h q = omega (arith, count_unread, s.looked.within, look_found s.looked (omega (arith, count_unread)) (tested ∙ ap not (ne_eqb number 0 q)))
+    tested : test s.read ≡ is_err (rule_of tops frames counted k)
+    tested = rw (here, s.counts) (stuck_ruled s.read)
 
-    pub count_over : length unread ≤ 0 → length order ≡ first_of test (length order)
-    count_over h = omega (arith, count_unread, s.looked.within, look_over s.looked (omega (arith, count_unread)))
+    pub count_found : is_err (rule_of tops frames counted k) ≡ true → Err (Entry (length order - length unread)) ≡ order_answer tops frames progress order
+    count_found q =
+        let r : length order - length unread ≡ s.read = omega (arith, count_unread s, s.looked.within) in
+        rw r (row_found table (look_some s.looked more (tested ∙ q)))
 
-    pub count_on : 0 < length unread → number ≡ 0 → Counted (tick (get_or unread 0 0) counted) (take (length unread - 1) (drop 1 unread))
-    count_on h q =
-        let less : s.read < length order = omega (arith, count_unread) in
-        record {
-          read = s.read + 1;
-          looked = look_on s.looked less (tested ∙ ap not (eq-eqb number 0 q));
-          counts = rw (here, s.counts) (sym (ap (λ (xs : List ℕ). run tick progress xs) (ap (λ (n : ℕ). take n order) (add-one s.read) ∙ take-suc order s.read 0 less) ∙ run_append tick (take s.read order) _ progress));
-          rest = take_all (length unread - 1) (drop 1 unread) (omega (arith, length-drop 1 unread)) ∙ ap (drop 1) s.rest ∙ drop-drop 1 s.read order;
-        }
+    pub count_on : is_err (rule_of tops frames counted k) ≡ false → Counted (tick k counted) rest
+    count_on q = record {
+      read = s.read + 1;
+      looked = look_on s.looked more (tested ∙ q);
+      counts = rw (here, s.counts) (sym (ap (λ (xs : List ℕ). run tick progress xs) (ap (λ (n : ℕ). take n order) (add-one s.read) ∙ take-suc order s.read 0 more) ∙ run_append tick (take s.read order) _ progress));
+      rest = ap (drop 1) (sym e ∙ s.rest) ∙ drop-drop 1 s.read order;
+    }

@@ -1,7 +1,7 @@
 -- Each public function's promise admits one outcome. What a function is lent by `&` it cannot change, so there too a caller sees the result and nothing else. Assumes nothing.
 use mathlib.Core.Path.{sym, ◌∙◌}
 use Rattle.float.proofs.Outcome.{Single}
-use Rattle.order_entries.proofs.number as number
+use Rattle.order_entries.proofs.Rule.number as number
 use Rattle.order_entries.proofs.may_run as may-run
 use Rattle.order_entries.proofs.check_order as check-order
 

@@ -3,7 +3,7 @@ ghost use Rattle.std.specs.Prelude.{◌≡◌};
 ghost use Rattle.plain_effects.specs.Distortion.{clip_of, distortion_of};
 
 use decibels::amplitude;
-use float::clamp::{abs_f32, clamp_signed_unit_f32};
+use float::clamp::{abs, clamp_signed_unit};
 use frame::Frame;
 
 // kira's `DistortionKind`: a hard clip cuts a sample off at -1 and 1, a soft clip gives x / (1 + |x|).
@@ -18,8 +18,8 @@ fn clip(kind: DistortionKind, x: f32) -> f32
     ensures { result ≡ clip_of kind x }
 {
     match kind {
-        DistortionKind::HardClip => clamp_signed_unit_f32(x),
-        DistortionKind::SoftClip => x / (1.0 + abs_f32(x)),
+        DistortionKind::HardClip => clamp_signed_unit(x),
+        DistortionKind::SoftClip => x / (1.0 + abs(x)),
     }
 }
 

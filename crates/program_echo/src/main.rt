@@ -2,20 +2,13 @@
 // The program writes the bits of the left samples, which are 0, 1, 1 by document 01's P12.
 #![tactic(auto)]
 
-use answer::number;
 use chain::render::render;
-use float::bits::to_bits_f32;
+use float::bits::to_bits;
 use fresh_start::start::start;
 use memories::PLACES;
 use stage::kind::Stage;
-use stage::setup::{empty, with};
+use stage::setup::Setup;
 use std::io;
-
-// One sample, as the eight digits of its bits, on a line of its own.
-fn say(rt: &impl Print, sample: f32) -> io::Result<()> {
-    let bits = to_bits_f32(sample);
-    println!(rt; "{bits:08x}")
-}
 
 fn main(rt: HostRuntime) -> io::Result<()> {
     let echo = Stage::Delay {
@@ -24,15 +17,16 @@ fn main(rt: HostRuntime) -> io::Result<()> {
         mix: 1.0,
         owned: 0,
     };
-    let setup = with(empty(48000), echo);
+    let setup = Setup::empty(48000).with(echo);
     let mut store = [0.0; 2];
     let mut samples = [1.0, 1.0, 0.0, 0.0, 0.0, 0.0];
     let fresh = start(setup, &mut store).memories;
-    let answer = render(setup, &mut samples, fresh, &mut store, [0; PLACES]).answer;
-    if number(answer) == 0 {
-        say(&rt, samples[0])?;
-        say(&rt, samples[2])?;
-        say(&rt, samples[4])?;
+    let rendered = render(setup, &mut samples, fresh, &mut store, [0; PLACES]);
+    if rendered.is_ok() {
+        for left in samples.iter().step_by(2) {
+            let bits = to_bits(*left);
+            println!(rt; "{bits:08x}")?;
+        }
     }
     Ok(())
 }

@@ -3,7 +3,7 @@
 #![tactic(auto)]
 
 use stage::kind::Stage;
-use stage::setup::{empty, with};
+use stage::setup::Setup;
 
 fn main(rt: HostRuntime) {
     let mut store = [0.0; 12719];
@@ -13,5 +13,5 @@ fn main(rt: HostRuntime) {
         stereo_width: 1.0,
         mix: 0.5,
     };
-    wav_stream::stream(&rt, with(empty(0), reverb), 22050, &mut store);
+    wav_stream::stream(&rt, Setup::empty(0).with(reverb), 22050, &mut store);
 }

@@ -16,4 +16,4 @@ pub check_samples_single : Single samples.check_samples.Reads.Post
 check_samples_single κs a r r' s s' p q = p ∙ sym q
 
 pub check_single : Single call.check.Reads.Post
-check_single κs a r r' s s' p q = rw (p.0 ∙ sym q.0, p.1 ∙ sym q.1, p.2 ∙ sym q.2)
+check_single κs a r r' s s' p q = rw (p.0 ∙ sym q.0, p.1 ∙ sym q.1, p.2 ∙ sym q.2, p.3 ∙ sym q.3)

@@ -4,31 +4,30 @@ ghost use Rattle.std.specs.Prelude.{◌≡◌};
 ghost use Rattle.theory_tables.specs.Rows.{first_row};
 ghost use Rattle.line_layout.specs.Layout.{starts_of};
 ghost use Rattle.top_stages.specs.Tops.{tops_record};
-ghost use Rattle.answer.specs.declared.Answer.TheVariants.{Accepted};
+ghost use Rattle.answer.specs.Answer.{accepted};
 ghost use Rattle.refusals.specs.Refusals.{all_rows, answer_of};
 
 use crate::chain::check_chain;
 use crate::samples::check_samples;
 use crate::state::check_state;
-use answer::{Answer, is_accepted};
-use line_layout::starts::starts_of;
-use memories::{ALL_POSITIONS, PLACES, number_at};
+use answer::Answer;
+use line_layout::layout::Layout;
+use memories::{ALL_POSITIONS, PLACES};
 use order_entries::check_order;
-use stage::setup::{ENDS, Setup, used};
-use top_stages::{Tops, tops_of};
+use stage::setup::Setup;
+use top_stages::Tops;
 
-// What the checks give: the answer, where lines start (line_layout::starts::starts_of), and the top stages
-// (top_stages::tops_of).
-#[derive(Clone, Copy)]
+// What the checks give: the answer, the chain with where its lines lie, and the top stages.
+#[derive(Clone, Copy, Debug, PartialEq)]
 pub struct Checked {
     pub answer: Answer,
-    pub starts: [usize; ENDS],
+    pub layout: Layout,
     pub tops: Tops,
 }
 
 // The checks in document 01's order, up to the first that refuses.
 fn first_refusal(
-    setup: Setup,
+    setup: &Setup,
     needed: usize,
     tops: usize,
     floats: usize,
@@ -37,25 +36,15 @@ fn first_refusal(
     progress: &[usize; PLACES],
     order: &[usize],
 ) -> Answer
-    ensures { result ≡ first_row (all_rows setup needed tops floats samples.now positions.now progress.now order.now) Accepted }
+    ensures { result ≡ first_row (all_rows setup.now needed tops floats samples.now positions.now progress.now order.now) accepted }
 {
-    let chain = check_chain(setup, needed, floats);
-    if !is_accepted(chain) {
-        return chain;
-    }
-    let state = check_state(setup, tops, positions, samples.len(), progress);
-    if !is_accepted(state) {
-        return state;
-    }
-    let sample = check_samples(tops, samples, progress);
-    if !is_accepted(sample) {
-        return sample;
-    }
+    check_chain(setup, needed, floats)?;
+    check_state(setup, tops, positions, samples.len(), progress)?;
+    check_samples(tops, samples, progress)?;
     check_order(tops, samples.len() / 2, progress, order)
 }
 
-// All eleven checks: the first refusal that applies, or `Accepted`. `floats` is the length of the line
-// store.
+// All eleven checks: the first refusal that applies. `floats` is the length of the line store.
 pub fn check(
     setup: Setup,
     floats: usize,
@@ -65,17 +54,17 @@ pub fn check(
     order: &[usize],
 ) -> Checked
     ensures { (result.answer ≡ answer_of setup floats samples.now positions.now progress.now order.now)
-        × (result.starts ≡ starts_of setup) × (result.tops ≡ tops_record setup) }
+        × (result.layout.setup ≡ setup) × (result.layout.starts ≡ starts_of setup) × (result.tops ≡ tops_record setup) }
 {
-    let starts = starts_of(setup);
-    let needed = number_at(&starts, used(setup.count));
-    let tops = tops_of(setup);
+    let layout = Layout::of(setup);
+    let needed = layout.starts[setup.used()];
+    let tops = Tops::of(setup);
     let answer = first_refusal(
-        setup, needed, tops.n, floats, samples, positions, progress, order,
+        &setup, needed, tops.n, floats, samples, positions, progress, order,
     );
     Checked {
         answer,
-        starts,
+        layout,
         tops,
     }
 }

@@ -1,56 +1,44 @@
 // Refusals 1 to 5, about the chain: its rate, its stages and the floats that they need.
 ghost use Rattle.std.specs.Prelude.{◌≡◌};
-ghost use Rattle.theory_tables.specs.First.{first_of};
+ghost use Rattle.theory_tables.specs.First.{found_of};
 ghost use Rattle.theory_tables.specs.Condition.{decide};
 ghost use Rattle.stage.specs.Setup.{used_of};
 ghost use Rattle.refusals.specs.Refusals.{out_of_range, chain_answer};
 
 use crate::shape::first_faulty;
-use answer::Answer;
+use answer::{Answer, Refusal};
 use memories::PLACES;
-use stage::range::in_range;
-use stage::setup::{Setup, used};
+use stage::setup::Setup;
 
-// The first place whose stage has a setting out of range, or how many places are used.
-fn first_out_of_range(setup: Setup) -> usize
-    ensures { result ≡ first_of (λ i. decide (out_of_range setup i)) (used_of setup) }
+// The first place whose stage has a setting out of range.
+fn first_out_of_range(setup: &Setup) -> Option<usize>
+    ensures { result ≡ found_of (λ i. decide (out_of_range setup.now i)) (used_of setup.now) }
 {
-    let end = used(setup.count);
-    let mut i = 0;
-    while i < end {
-        let slot = setup.slots[i];
-        let stage = slot.stage;
-        if !in_range(stage) {
-            return i;
-        }
-        i += 1;
-    }
-    i
+    setup
+        .stages()
+        .iter()
+        .position(|slot| !slot.stage.in_range())
 }
 
-// Checks 1 to 5: the first refusal that applies, or `Accepted`. `needed` is how many floats the stages need
-// (line_layout::starts::needed), `floats` how many the store has.
-pub fn check_chain(setup: Setup, needed: usize, floats: usize) -> Answer
-    ensures { result ≡ chain_answer setup needed floats }
+// Checks 1 to 5: the first refusal that applies. `needed` is how many floats the stages need
+// (line_layout::layout::needed), `floats` how many the store has.
+pub fn check_chain(setup: &Setup, needed: usize, floats: usize) -> Answer
+    ensures { result ≡ chain_answer setup.now needed floats }
 {
-    let rate = setup.rate;
-    if (rate < 8000) | (192000 < rate) {
-        return Answer::Rate;
+    if setup.rate < 8000 || 192000 < setup.rate {
+        return Err(Refusal::Rate);
     }
     if PLACES < setup.count {
-        return Answer::Stages;
+        return Err(Refusal::Stages);
     }
-    let end = used(setup.count);
-    let faulty = first_faulty(setup);
-    if faulty < end {
-        return Answer::Shape(faulty);
+    if let Some(at) = first_faulty(setup) {
+        return Err(Refusal::Shape(at));
     }
-    let out = first_out_of_range(setup);
-    if out < end {
-        return Answer::Setting(out);
+    if let Some(at) = first_out_of_range(setup) {
+        return Err(Refusal::Setting(at));
     }
     if floats < needed {
-        return Answer::Store(needed);
+        return Err(Refusal::Store(needed));
     }
-    Answer::Accepted
+    Ok(())
 }

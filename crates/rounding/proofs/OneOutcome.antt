@@ -1,15 +1,14 @@
 -- Each public function's promise admits one outcome. Assumes nothing.
 use mathlib.Core.Path.{sym, ◌∙◌}
-use Rattle.float.proofs.Outcome.{Single}
+use denote.RattleType.{RattleType}
+use Rattle.float.specs.declared.floating.Floating.{Ghosts}
+use Rattle.float.proofs.Outcome.{Single, Known}
 use Rattle.rounding.proofs.sqrt as sqrt
 use Rattle.rounding.proofs.narrow as narrow
 use Rattle.rounding.proofs.quotient as quotient
 
-pub sqrt_f32_single : Single sqrt.sqrt_f32.Reads.Post
-sqrt_f32_single κs a r r' s s' p q = p ∙ sym q
-
-pub sqrt_f64_single : Single sqrt.sqrt_f64.Reads.Post
-sqrt_f64_single κs a r r' s s' p q = p ∙ sym q
+pub sqrt_single : (T B : RattleType) (k l m n : _) (f : Ghosts T.Denot B.Denot) (o p q r s t u v w : _) → Known f.value → Single (sqrt.sqrt.Reads.Post T B k l m n f o p q r s t u v w)
+sqrt_single T B k l m n f o p q r s t u v w known κs a x x' e e' h h' = known x x' (h ∙ sym h')
 
 pub as_f32_single : Single narrow.as_f32.Reads.Post
 as_f32_single κs a r r' s s' p q = p ∙ sym q

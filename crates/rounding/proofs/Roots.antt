@@ -6,10 +6,9 @@ use mathlib.Core.Bool.{Bool, true, false, not, true≢false, false≢true}
 use lib.IntN.{pos}
 use lib.Dec.{T}
 use borrow.Author.Tests.{ltb-false}
-use lib.Ieee.{Float, nan, inf, fin, Format, up, down, hid, ones, of_bits, to_bits, fits, is_nan, lt, eq, div}
+use lib.Ieee.{Float, nan, inf, fin, Format, up, down, hid, ones, of_bits, to_bits, fits, is_nan, lt, eq}
 use lib.Ieee.Bits.{of_bits-to_bits}
 use Rattle.float.proofs.Zero.{zero_is, some_size, equals_zero, zero_size}
-use Rattle.float.proofs.Nan.{nan_is}
 use Rattle.float.proofs.Finites.{finite_bits}
 use Rattle.rounding.specs.Root.{sqrt_of}
 
@@ -58,9 +57,9 @@ root_of_zero f x h = go x (ap (eq x) (sym (zero_is f)) ∙ h)
     go (fin s zero d) e = refl
     go (fin s (suc m) d) e = absurd (suc-ne-zero m (zero_size s (suc m) d e))
 
-pub root_of_negative : (f : Format) (x : Float) → lt (of_bits f 0) x ≡ false → eq x (of_bits f 0) ≡ false → div f (of_bits f 0) (of_bits f 0) ≡ sqrt_of f x
+pub root_of_negative : (f : Format) (x : Float) → lt (of_bits f 0) x ≡ false → eq x (of_bits f 0) ≡ false → nan ≡ sqrt_of f x
 unfolding lt eq sqrt_of
-root_of_negative f x h k = nan_is f ∙ go x (at_zero f x false h) (ap (eq x) (sym (zero_is f)) ∙ k)
+root_of_negative f x h k = go x (at_zero f x false h) (ap (eq x) (sym (zero_is f)) ∙ k)
   where
     go : (x : Float) → Above x ≡ false → eq x (fin false 0 (pos 0)) ≡ false → nan ≡ sqrt_of f x
     go nan e i = refl

@@ -1,18 +1,12 @@
 // Rust's `as f32` from an f64: the f32 nearest to it, a tie going to the even one. The digits for
 // which an f32 has no room are divided off, and the exponent field goes down by 896, the difference
 // of the two formats' biases.
-ghost use Rattle.std.specs.Prelude.{◌≡◌, Bool, cond, ◌+◌, ◌^◌, ◌≤◌, ◌<◌, min};
+ghost use Rattle.std.specs.Prelude.{◌≡◌, Bool, cond, ◌+◌, ◌^◌, ◌≤◌, ◌<◌};
 ghost use Rattle.std.specs.Float.{binary32, binary64};
 ghost use Rattle.std.specs.Float.Ieee.{of_bits, of_fields};
 ghost use Rattle.rounding.specs.Narrow.{narrow_of};
 
 use crate::quotient::nearest_quotient;
-
-pub(crate) fn lesser(a: u64, b: u64) -> u64
-    ensures { result ≡ min a b }
-{
-    if a < b { a } else { b }
-}
 
 // The f32 nearest to the finite f64 with this exponent field and these digits, as bits without a sign.
 fn narrowed(field: u64, digits: u64) -> u64
@@ -27,7 +21,7 @@ fn narrowed(field: u64, digits: u64) -> u64
     if field < 897 {
         return nearest_quotient(q, 1 << (926 - field));
     }
-    lesser(
+    u64::min(
         (field - 897) * 0x80_0000 + nearest_quotient(q, 0x2000_0000),
         0x7f80_0000,
     )

@@ -1,12 +1,11 @@
 // The square root of an f32 and of an f64, correctly rounded. The digits of the root are worked out
 // one by one in a u64. One law, stated for both formats at once, says which bits they make.
 ghost use Rattle.std.specs.Prelude.{◌≡◌, ◌+◌, ◌*◌, ◌/◌, ◌^◌, ◌≤◌, ◌<◌};
-ghost use Rattle.std.specs.Float.{binary32, binary64};
 ghost use Rattle.std.specs.Float.Ieee.{of_bits};
 ghost use Rattle.rounding.specs.Root.{sqrt_of, nearest_root};
 ghost use Rattle.rounding.specs.Inner.{Rooted, Rootable, ScaledRoot};
 
-use crate::narrow::lesser;
+use float::floating::Floating;
 
 #[derive(Clone, Copy)]
 struct Root {
@@ -29,8 +28,7 @@ fn whole_root(w: u64, n: u64) -> Root
     let mut word = w;
     let mut root: u64 = 0;
     let mut rest: u64 = 0;
-    let mut i: u64 = 0;
-    while i < n {
+    for _i in 0..n {
         let next = 4 * rest + word / 0x4000_0000_0000_0000;
         let trial = 4 * root + 1;
         word = word % 0x4000_0000_0000_0000 * 4;
@@ -41,7 +39,6 @@ fn whole_root(w: u64, n: u64) -> Root
             rest = next;
             root = 2 * root;
         }
-        i += 1;
     }
     Root { digits: root, rest }
 }
@@ -70,71 +67,35 @@ fn scaled_root(q: u64, j: u64, p: u64) -> Scaled
     Scaled { digits, places }
 }
 
-// The bits of the root of the f32 with the bits b, which is finite and above 0.
-fn root_bits_f32(b: u64) -> u64
+// The bits of the root of the value with the bits b, which is finite and above 0.
+fn root_bits<F: Floating>(b: u64) -> u64
     requires positive { 0 < b }
-    requires finite { b < 0x7f80_0000 }
-    ensures { (of_bits binary32 result ≡ sqrt_of binary32 (of_bits binary32 b)) × (result ≤ 0x7f80_0000) }
+    requires finite { b < F.INFINITY }
+    ensures { (of_bits F.format result ≡ sqrt_of F.format (of_bits F.format b)) × (result ≤ F.INFINITY) }
 {
-    let field = b / 0x80_0000;
-    let digits = b % 0x80_0000;
+    let field = b / F::HIDDEN;
+    let digits = b % F::HIDDEN;
     let root = if field == 0 {
-        scaled_root(digits, 149, 24)
+        scaled_root(digits, F::PLACES, F::DIGITS)
     } else {
-        scaled_root(0x80_0000 + digits, 149 + (field - 1), 24)
+        scaled_root(F::HIDDEN + digits, F::PLACES + (field - 1), F::DIGITS)
     };
-    lesser(root.places * 0x80_0000 + root.digits, 0x7f80_0000)
+    u64::min(root.places * F::HIDDEN + root.digits, F::INFINITY)
 }
 
-// The bits of the root of the f64 with the bits b, which is finite and above 0.
-fn root_bits_f64(b: u64) -> u64
-    requires positive { 0 < b }
-    requires finite { b < 0x7ff0_0000_0000_0000 }
-    ensures { (of_bits binary64 result ≡ sqrt_of binary64 (of_bits binary64 b)) × (result ≤ 0x7ff0_0000_0000_0000) }
+// Rust's `sqrt`, correctly rounded. -0 gives -0; a number below 0 and NaN give NaN.
+pub fn sqrt<F: Floating>(x: F) -> F
+    ensures { F.value result ≡ sqrt_of F.format (F.value x) }
 {
-    let field = b / 0x10_0000_0000_0000;
-    let digits = b % 0x10_0000_0000_0000;
-    let root = if field == 0 {
-        scaled_root(digits, 1074, 53)
-    } else {
-        scaled_root(0x10_0000_0000_0000 + digits, 1074 + (field - 1), 53)
-    };
-    lesser(
-        root.places * 0x10_0000_0000_0000 + root.digits,
-        0x7ff0_0000_0000_0000,
-    )
-}
-
-// Rust's `f32::sqrt`, correctly rounded. -0 gives -0; a number below 0 and NaN give NaN.
-pub fn sqrt_f32(x: f32) -> f32
-    ensures { result ≡ sqrt_of binary32 x }
-{
-    if x > 0.0 {
-        let b = f32::to_bits(x);
-        if b < 0x7f80_0000 {
-            return f32::from_bits(root_bits_f32(b as u64) as u32);
+    if F::ZERO < x {
+        let b = F::widen(x.own_bits());
+        if b < F::INFINITY {
+            return F::from_own_bits(F::narrow(root_bits::<F>(b)));
         }
         return x;
     }
-    if x == 0.0 {
+    if x == F::ZERO {
         return x;
     }
-    0.0 / 0.0
-}
-
-// Rust's `f64::sqrt`, correctly rounded. -0 gives -0; a number below 0 and NaN give NaN.
-pub fn sqrt_f64(x: f64) -> f64
-    ensures { result ≡ sqrt_of binary64 x }
-{
-    if x > 0.0 {
-        let b = f64::to_bits(x);
-        if b < 0x7ff0_0000_0000_0000 {
-            return f64::from_bits(root_bits_f64(b));
-        }
-        return x;
-    }
-    if x == 0.0 {
-        return x;
-    }
-    0.0 / 0.0
+    F::NAN
 }

@@ -13,7 +13,3 @@ same_by code (x ∷ a) (y ∷ b) = eqb (code x) (code y) && same_by code a b
 -- whether two lists have the same floats, bit for bit; all NaNs count as one
 abbrev pub same_floats : List Float → List Float → Bool
 same_floats a b = same_by (to_bits binary32) a b
-
--- whether two lists have the same numbers
-abbrev pub same_numbers : List ℕ → List ℕ → Bool
-same_numbers a b = same_by (λ (n : ℕ). n) a b

@@ -2,40 +2,17 @@
 #![tactic(auto)]
 
 ghost use Rattle.std.specs.Prelude.{◌≡◌};
-ghost use Rattle.same_slices.specs.Same.{same_floats, same_numbers};
+ghost use Rattle.same_slices.specs.Same.{same_floats};
 
-use float::bits::to_bits_f32;
+use float::bits::to_bits;
 
-// Whether two slices have the same length and the same floats, bit for bit; all NaNs count as one.
+// Whether two slices have the same length and the same floats, bit for bit; all NaNs count as one. Floats
+// alone need this: numbers are compared by `==`.
 pub fn floats(a: &[f32], b: &[f32]) -> bool
     ensures { result ≡ same_floats a.now b.now }
 {
-    if a.len() != b.len() {
-        return false;
-    }
-    let mut i = 0;
-    while i < a.len() {
-        if to_bits_f32(a[i]) != to_bits_f32(b[i]) {
-            return false;
-        }
-        i += 1;
-    }
-    true
-}
-
-// Whether two slices have the same length and the same numbers.
-pub fn numbers(a: &[usize], b: &[usize]) -> bool
-    ensures { result ≡ same_numbers a.now b.now }
-{
-    if a.len() != b.len() {
-        return false;
-    }
-    let mut i = 0;
-    while i < a.len() {
-        if a[i] != b[i] {
-            return false;
-        }
-        i += 1;
-    }
-    true
+    a.len() == b.len()
+        && a.iter()
+            .zip(b)
+            .all(|(x, y)| to_bits(*x) == to_bits(*y))
 }

@@ -11,7 +11,7 @@ use Rattle.line.specs.Held.{Held}
 use Rattle.theory_order.specs.Chain.{State}
 use Rattle.memories.specs.Sizes.{places, all_positions, all_floats}
 use Rattle.stage.specs.declared.setup.Setup.{Setup}
-use Rattle.answer.specs.declared.Answer.{Answer}
+use Rattle.answer.specs.Answer.{Answer}
 use Rattle.chain.specs.Chain.{state}
 use Rattle.sedhavil.specs.declared.Reply.{Reply}
 use Rattle.sedhavil.specs.Call.{reply_of, fault_of, read}

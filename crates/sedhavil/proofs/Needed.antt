@@ -13,8 +13,7 @@ use Rattle.theory_tables.proofs.Tested.{Gives, row_hit, row_pass, row_none}
 use Rattle.memories.specs.Sizes.{places, all_positions, all_floats}
 use Rattle.stage.specs.declared.setup.Setup.{Setup}
 use Rattle.line_layout.specs.Layout.{needed_of}
-use Rattle.answer.specs.declared.Answer.TheVariants.{Accepted}
-use Rattle.answer.specs.Answer.{number_of}
+use Rattle.answer.specs.Answer.{accepted, number_of}
 use Rattle.refusals.specs.Refusals.{chain_rows, chain_answer}
 use Rattle.stage_words.specs.Words.{setup_of}
 use Rattle.sedhavil.specs.declared.Reply.{Reply}
@@ -34,7 +33,7 @@ module _ {A : Type 0} (number : A → ℕ) {other a : A} (h : number a ≡ 5) wh
 pub room_enough : (setup : Setup) (n : ℕ) → number_of (chain_answer setup n n) ≡ 5 → ⊥
 unfolding chain_answer
 room_enough setup n h =
-    let all : Gives (chain_rows setup n n) Accepted (chain_answer setup n n) = record { same = refl } in
+    let all : Gives (chain_rows setup n n) accepted (chain_answer setup n n) = record { same = refl } in
     let rate = skip number_of h all (λ z. omega (arith, z)) in
     let stages = skip number_of h rate (λ z. omega (arith, z)) in
     let shape = skip number_of h stages (λ z. omega (arith, z)) in

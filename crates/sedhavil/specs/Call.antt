@@ -3,8 +3,7 @@ use Rattle.std.specs.Prelude.{cond, List, [], ◌∷◌, ℕ, ◌%◌, eqb, leng
 use Rattle.theory_tables.specs.Condition.{differ}
 use Rattle.theory_tables.specs.Rows.{Row, row, given, first, first_row, ByTheTable}
 use Rattle.memories.specs.Sizes.{places, all_positions, all_floats}
-use Rattle.answer.specs.declared.Answer.{Answer}
-use Rattle.answer.specs.Answer.{number_of, place_of}
+use Rattle.answer.specs.Answer.{Answer, number_of, place_of}
 use Rattle.stage_words.specs.Words.{word_count, count_of, unknown_at}
 use Rattle.sedhavil.specs.declared.Reply.{Reply}
 use Rattle.sedhavil.specs.declared.Room.{Room}

@@ -8,17 +8,21 @@ ghost use Rattle.line.specs.Held.{holds};
 ghost use Rattle.memories.specs.Sizes.{places, all_positions, all_floats};
 ghost use Rattle.chain.specs.Chain.{state};
 ghost use Rattle.stage_words.specs.Words.{layout_version};
-ghost use Rattle.sedhavil.specs.Call.{reply_of, fault_of, room_of};
+ghost use Rattle.chain.specs.Block.{answer_given, carried};
+ghost use Rattle.sedhavil.specs.Call.{reply_of, room_of};
+ghost use Rattle.sedhavil.specs.Read.{carried_in};
 ghost use Rattle.sedhavil.specs.Face.{run_reply, run_leaves, render_reply, render_leaves, start_reply, start_leaves, needed_room};
 
-mod slices;
+mod read;
 
-use answer::Answer;
-use chain::run::Outcome;
-use line_layout::starts::needed;
-use memories::{ALL_FLOATS, ALL_POSITIONS, PLACES};
+use crate::read::{read_call, read_setup};
+use answer::{Answer, Refusal};
+use chain::render::render;
+use chain::run::{Outcome, run};
+use fresh_start::start::start;
+use line_layout::layout::needed;
+use memories::PLACES;
 use refusals::chain::check_chain;
-use stage_words::WORDS;
 
 // What a host is told: number 0 for an accepted call, and otherwise why it is refused, with a place. 101
 // and 102 are calls that cannot be read: 101's place is a slice (0 stages, 1 positions, 2 floats, 3
@@ -39,94 +43,53 @@ pub struct Room {
     pub floats: usize,
 }
 
-fn reply_of(given: Answer) -> Reply
-    ensures { result ≡ reply_of given }
+fn reply_of(answer: Answer) -> Reply
+    ensures { result ≡ reply_of answer }
 {
-    Reply {
-        number: answer::number(given),
-        place: answer::place(given),
-    }
-}
-
-fn room_of(given: Reply, floats: usize) -> Room
-    ensures { result ≡ room_of given floats }
-{
-    let number = given.number;
-    let place = given.place;
-    if number == 0 {
-        return Room {
-            number,
-            place,
-            floats,
-        };
-    }
-    Room {
-        number,
-        place,
-        floats: 0,
-    }
-}
-
-// Why the call cannot be read; number 0 where it can.
-fn fault_of(stages: &[u64], positions: usize, floats: usize, progress: usize) -> Reply
-    ensures { result ≡ fault_of stages.now positions floats progress }
-{
-    if stages.len() % WORDS != 0 {
-        return Reply {
-            number: 101,
+    match answer {
+        Ok(()) => Reply {
+            number: 0,
             place: 0,
-        };
-    }
-    if positions != ALL_POSITIONS {
-        return Reply {
-            number: 101,
-            place: 1,
-        };
-    }
-    if floats != ALL_FLOATS {
-        return Reply {
-            number: 101,
-            place: 2,
-        };
-    }
-    if progress != PLACES {
-        return Reply {
-            number: 101,
-            place: 3,
-        };
-    }
-    let unknown = stage_words::first_unknown(stages);
-    if unknown < stages.len() / WORDS {
-        return Reply {
-            number: 102,
-            place: unknown,
-        };
-    }
-    Reply {
-        number: 0,
-        place: 0,
+        },
+        Err(refusal) => Reply {
+            number: refusal.number(),
+            place: refusal.place(),
+        },
     }
 }
 
-// Puts the memories and the progress that a call leaves into the slices that the host lent, and gives
-// the host its reply.
+// The floats that a store needs, where the reply is no refusal.
+fn room_of(reply: Reply, floats: usize) -> Room
+    ensures { result ≡ room_of reply floats }
+{
+    Room {
+        number: reply.number,
+        place: reply.place,
+        floats: if reply.number == 0 { floats } else { 0 },
+    }
+}
+
+// Puts the memories and the progress that an accepted call leaves into the slices that the host lent, and
+// gives the host its reply.
 fn hand_back(
-    outcome: Outcome,
+    given: Result<Outcome, Refusal>,
     positions: &mut [usize],
     floats: &mut [f32],
     progress: &mut [usize],
 ) -> Reply
-    ensures { (result ≡ reply_of outcome.answer)
-        × (length positions.old ≡ all_positions → positions.new ≡ outcome.memories.positions)
-        × (length floats.old ≡ all_floats → floats.new ≡ outcome.memories.floats)
-        × (length progress.old ≡ places → progress.new ≡ outcome.progress) }
+    requires positions { length positions.old ≡ all_positions }
+    requires floats { length floats.old ≡ all_floats }
+    requires progress { length progress.old ≡ places }
+    ensures reply { result ≡ reply_of (answer_given given) }
+    ensures carried { carried_in positions.new floats.new progress.new
+        ≡ carried (record { positions = positions.old; floats = floats.old }) progress.old given }
 {
-    let memories = outcome.memories;
-    let done = outcome.progress;
-    let answer = outcome.answer;
-    slices::scatter(memories, positions, floats);
-    slices::copy_numbers(&done, progress);
-    reply_of(answer)
+    if let Ok(outcome) = given {
+        positions.copy_from_slice(&outcome.memories.positions);
+        floats.copy_from_slice(&outcome.memories.floats);
+        progress.copy_from_slice(&outcome.progress);
+    }
+    reply_of(given.map(|_| ()))
 }
 
 // Runs top stages in the given order, each entry on that stage's next frame. The order need not finish
@@ -145,19 +108,21 @@ pub fn sedhavil_run(
     ensures leaves { state samples.new store.new positions.new floats.new progress.new
         ≡ run_leaves rate stages.now (state samples.old store.old positions.old floats.old progress.old) order.now }
 {
-    let fault = fault_of(stages, positions.len(), floats.len(), progress.len());
-    if fault.number != 0 {
-        return fault;
+    match read_call(rate, stages, positions, floats, progress) {
+        Ok(call) => {
+            let carried = call.carried;
+            let given = run(
+                call.setup,
+                samples,
+                carried.memories,
+                store,
+                carried.progress,
+                order,
+            );
+            hand_back(given, positions, floats, progress)
+        }
+        Err(fault) => fault,
     }
-    let outcome = chain::run::run(
-        stage_words::setup_of(rate, stages),
-        samples,
-        slices::gathered(positions, floats),
-        store,
-        slices::progress_of(progress),
-        order,
-    );
-    hand_back(outcome, positions, floats, progress)
 }
 
 // Runs every stage to the last frame, from wherever the block stands.
@@ -174,18 +139,20 @@ pub fn sedhavil_render(
     ensures leaves { state samples.new store.new positions.new floats.new progress.new
         ≡ render_leaves rate stages.now (state samples.old store.old positions.old floats.old progress.old) }
 {
-    let fault = fault_of(stages, positions.len(), floats.len(), progress.len());
-    if fault.number != 0 {
-        return fault;
+    match read_call(rate, stages, positions, floats, progress) {
+        Ok(call) => {
+            let carried = call.carried;
+            let given = render(
+                call.setup,
+                samples,
+                carried.memories,
+                store,
+                carried.progress,
+            );
+            hand_back(given, positions, floats, progress)
+        }
+        Err(fault) => fault,
     }
-    let outcome = chain::render::render(
-        stage_words::setup_of(rate, stages),
-        samples,
-        slices::gathered(positions, floats),
-        store,
-        slices::progress_of(progress),
-    );
-    hand_back(outcome, positions, floats, progress)
 }
 
 // A fresh start: clears the floats of the store that the stages need, and all memories. Where one of
@@ -201,14 +168,15 @@ pub fn sedhavil_start(
     ensures leaves { holds store.new positions.new floats.new
         ≡ start_leaves rate stages.now (holds store.old positions.old floats.old) }
 {
-    let fault = fault_of(stages, positions.len(), floats.len(), PLACES);
-    if fault.number != 0 {
-        return fault;
+    match read_call(rate, stages, positions, floats, &[0; PLACES]) {
+        Ok(call) => {
+            let started = start(call.setup, store);
+            positions.copy_from_slice(&started.memories.positions);
+            floats.copy_from_slice(&started.memories.floats);
+            reply_of(started.answer)
+        }
+        Err(fault) => fault,
     }
-    let started = fresh_start::start::start(stage_words::setup_of(rate, stages), store);
-    slices::scatter(started.memories, positions, floats);
-    let answer = started.answer;
-    reply_of(answer)
 }
 
 // How many floats the store needs. Refused are words that cannot be read, and what a start refuses with
@@ -216,13 +184,13 @@ pub fn sedhavil_start(
 pub fn sedhavil_floats_needed(rate: u32, stages: &[u64]) -> Room
     ensures { result ≡ needed_room rate stages.now }
 {
-    let fault = fault_of(stages, ALL_POSITIONS, ALL_FLOATS, PLACES);
-    if fault.number != 0 {
-        return room_of(fault, 0);
+    match read_setup(rate, stages) {
+        Ok(setup) => {
+            let floats = needed(setup);
+            room_of(reply_of(check_chain(&setup, floats, floats)), floats)
+        }
+        Err(fault) => room_of(fault, 0),
     }
-    let setup = stage_words::setup_of(rate, stages);
-    let floats = needed(setup);
-    room_of(reply_of(check_chain(setup, floats, floats)), floats)
 }
 
 // The version of the layout of a stage's words and of memories. A host that was made for another version

@@ -7,7 +7,7 @@ ghost use Rattle.wav_header.specs.Header.{header_of};
 ghost use Rattle.wav_samples.specs.Frames.{whole_frames, samples_in, bytes_out};
 ghost use Rattle.sedhavil_wav.specs.Header.{header_out};
 
-use wav_header::Header;
+use wav_header::{Header, HeaderRefusal};
 
 // The answer to a header: number 0, its rate and its data size if it is read; otherwise document 01's
 // number, 21 to 25, and zeros.
@@ -19,14 +19,18 @@ pub struct WavHeader {
     pub size: u32,
 }
 
-fn header_out(given: Header) -> WavHeader
+#[tactic(auto, unfolding(crate::specs::Header::header_out))]
+fn header_out(given: Result<Header, HeaderRefusal>) -> WavHeader
     ensures { result ≡ header_out given }
 {
-    let number = wav_header::number(given);
     match given {
-        Header::Read { rate, size } => WavHeader { number, rate, size },
-        _ => WavHeader {
-            number,
+        Ok(Header { rate, size }) => WavHeader {
+            number: 0,
+            rate,
+            size,
+        },
+        Err(refusal) => WavHeader {
+            number: refusal.number(),
             rate: 0,
             size: 0,
         },

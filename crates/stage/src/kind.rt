@@ -69,6 +69,7 @@ pub struct Holding {
 impl Stage {
     // What a stage has besides its settings. Only a reverb and a delay have lines, and only a delay owns
     // stages.
+    #[tactic(auto, using(crate::proofs::Unnamed::holds_none), unfolding(crate::specs::Holding::holding_of))]
     pub fn holding(self) -> Holding
         ensures { result ≡ holding_of self }
     {

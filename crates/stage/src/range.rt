@@ -3,7 +3,7 @@ ghost use Rattle.std.specs.Prelude.{◌≡◌};
 ghost use Rattle.stage.specs.Range.{tangent_of, unit_range, delay_range, in_range_of};
 
 use crate::kind::Stage;
-use float::finite::{is_finite_f32, is_finite_f64};
+use float::finite::is_finite;
 
 // An f32 from 0 to 1, -0 included.
 fn is_unit(x: f32) -> bool
@@ -20,30 +20,32 @@ fn is_tangent(g: f64) -> bool
 }
 
 // The settings of a delay, except how many stages it owns.
+#[tactic(auto, using(crate::proofs::Contained::nat_le), unfolding(crate::specs::Range::delay_range))]
 fn delay_in_range(frames: u32, feedback: i32, mix: f32) -> bool
     ensures { result ≡ delay_range frames feedback mix }
 {
-    (1..=480000).contains(&frames) & (feedback <= 24) & is_finite_f32(mix)
+    (1..=480000).contains(&frames) & (feedback <= 24) & is_finite(mix)
 }
 
 impl Stage {
     // Whether every setting of the stage is finite and in its range. How many stages a delay owns is not
     // looked at: that is refusal 3's concern.
+    #[tactic(auto, using(crate::proofs::Contained::int_le), unfolding(crate::specs::Range::in_range_of))]
     pub fn in_range(self) -> bool
         ensures { result ≡ in_range_of self }
     {
         match self {
             Stage::VolumeControl { volume } => volume <= 24,
-            Stage::PanningControl { panning } => is_finite_f32(panning),
+            Stage::PanningControl { panning } => is_finite(panning),
             Stage::Distortion { drive, mix, .. } => {
-                (-59..=24).contains(&drive) & is_finite_f32(mix)
+                (-59..=24).contains(&drive) & is_finite(mix)
             }
             Stage::Filter {
                 g,
                 resonance,
                 mix,
                 ..
-            } => is_tangent(g) & is_finite_f64(resonance) & is_finite_f32(mix),
+            } => is_tangent(g) & is_finite(resonance) & is_finite(mix),
             Stage::EqFilter { g, gain, q, .. } => {
                 is_tangent(g) & (-24..=24).contains(&gain) & (0.0..=1000.0).contains(&q)
             }
@@ -52,7 +54,7 @@ impl Stage {
                 damping,
                 stereo_width,
                 mix,
-            } => is_unit(feedback) & is_unit(damping) & is_unit(stereo_width) & is_finite_f32(mix),
+            } => is_unit(feedback) & is_unit(damping) & is_unit(stereo_width) & is_finite(mix),
             Stage::Delay {
                 frames,
                 feedback,

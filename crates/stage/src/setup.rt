@@ -26,6 +26,7 @@ pub struct Setup {
 
 impl Setup {
     // A chain of no stages, at this rate.
+    #[tactic(auto, unfolding(crate::specs::Setup::empty_setup))]
     pub fn empty(rate: u32) -> Setup
         ensures { result ≡ empty_setup rate }
     {
@@ -39,6 +40,7 @@ impl Setup {
 
     // The chain with one stage more, at its end. Where all 16 places are taken, the stage is not kept and
     // the count is 17, so that a call is refused.
+    #[tactic(auto, unfolding(crate::specs::Setup::with_stage))]
     pub fn with(mut self, stage: Stage) -> Setup
         ensures { result ≡ with_stage self stage }
     {
@@ -68,6 +70,7 @@ impl Setup {
 
 impl Stage {
     // The place after the stage at i and all that it owns, but no further than `end`.
+    #[tactic(auto, unfolding(crate::specs::Setup::next_place, crate::specs::Holding::holding_of))]
     pub fn next_place(self, i: usize, end: usize) -> usize
         ensures { (result ≡ next_place self i end) × (result ≤ end) × (i < end → i < result) }
     {

@@ -8,7 +8,7 @@ ghost use Rattle.theory_tables.specs.First.{first_of};
 ghost use Rattle.theory_tables.specs.Condition.{decide};
 ghost use Rattle.stage_words.specs.Words.{is_short, short_of, is_level, level_of, single_of, layout_version, is_stage, stage_of, word_count, word_at, length_from, count_of, stage_words, unknown_at, setup_of};
 
-use float::bits::{from_bits_f32, from_bits_f64};
+use float::bits::from_bits;
 use kind_codes::{clip_at, eq_kind_at, mode_at};
 use stage::kind::Stage;
 use stage::setup::{Setup, Slot};
@@ -68,7 +68,7 @@ fn level(word: u64) -> i32
 fn single(word: u64) -> f32
     ensures { result ≡ single_of word }
 {
-    from_bits_f32(short(word))
+    from_bits(short(word))
 }
 
 // The stage that the words are, its kind by its place in `Stage`. Where they are no stage, it does not matter
@@ -89,15 +89,15 @@ fn stage_of(w: StageWords) -> Stage
         },
         3 => Stage::Filter {
             mode: mode_at(w.a),
-            g: from_bits_f64(w.b),
-            resonance: from_bits_f64(w.c),
+            g: from_bits(w.b),
+            resonance: from_bits(w.c),
             mix: single(w.d),
         },
         4 => Stage::EqFilter {
             kind: eq_kind_at(w.a),
-            g: from_bits_f64(w.b),
+            g: from_bits(w.b),
             gain: level(w.c),
-            q: from_bits_f64(w.d),
+            q: from_bits(w.d),
         },
         5 => Stage::Reverb {
             feedback: single(w.a),
@@ -173,12 +173,9 @@ pub fn first_unknown(words: &[u64]) -> usize
     ensures { result ≡ first_of (λ i. decide (unknown_at words.now i)) (count_of words.now) }
 {
     let count = words.len() / WORDS;
-    for i in 0..count {
-        if !is_stage(stage_words(words, i)) {
-            return i;
-        }
-    }
-    count
+    (0..count)
+        .find(|&i| !is_stage(stage_words(words, i)))
+        .unwrap_or(count)
 }
 
 // The chain that the words are, at this rate. Stages past the 16th are counted and not kept, and fewer than

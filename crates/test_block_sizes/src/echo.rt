@@ -1,10 +1,11 @@
 // The echo: a delay of 100 frames and a panning after it, over 4,096 frames of noise.
-ghost use Rattle.std.specs.Prelude.{◌+◌, ◌<◌, ◌≤◌, length};
+ghost use Rattle.std.specs.Prelude.{◌<◌, length};
 
 use chain::run::run;
 use memories::{Memories, PLACES, zero};
 use stage::kind::Stage;
-use stage::setup::{Setup, empty, with};
+use stage::setup::Setup;
+use std::array;
 
 // What one way of running the echo leaves.
 #[derive(Clone, Copy)]
@@ -21,10 +22,9 @@ fn setup() -> Setup {
         mix: 0.5,
         owned: 0,
     };
-    with(
-        with(empty(44100), delay),
-        Stage::PanningControl { panning: 0.25 },
-    )
+    Setup::empty(44100)
+        .with(delay)
+        .with(Stage::PanningControl { panning: 0.25 })
 }
 
 // Sample i of the noise: from -1/2 up to 1/2, in steps of 2^-16.
@@ -33,70 +33,28 @@ fn noise(i: usize) -> f32 {
     std::num::nearest_u32_to_f32(n as u32) / 65536.0 - 0.5
 }
 
-// Entry i of an order that names both stages equally often: in turn, or stage 0 always before stage 1.
-fn entry(i: usize, half: usize, by_frame: bool) -> usize {
-    if by_frame {
-        return i % 2;
-    }
-    if i < half { 0 } else { 1 }
+// An order of so many entries that names both stages in turn.
+pub(crate) fn by_frame<const ENTRIES: usize>() -> [usize; ENTRIES] {
+    array::from_fn(|i| i % 2)
 }
 
-fn put_entry(order: &mut [usize], i: usize, by_frame: bool) {
-    if i < order.len() {
-        order[i] = entry(i, order.len() / 2, by_frame);
-    }
+// An order of so many entries that names stage 0 in its first half, and then stage 1.
+pub(crate) fn by_stage<const ENTRIES: usize>() -> [usize; ENTRIES] {
+    array::from_fn(|i| if i < ENTRIES / 2 { 0 } else { 1 })
 }
 
-// Fills the samples with noise, and the order, which has no more entries than there are samples.
-fn fill(samples: &mut [f32], order: &mut [usize], by_frame: bool) {
-    for i in 0..samples.len() {
-        samples[i] = noise(i);
-        put_entry(order, i, by_frame);
-    }
-}
-
-fn run_on(samples: &mut [f32], memories: Memories, store: &mut [f32], order: &[usize]) -> Memories {
-    let outcome = run(setup(), samples, memories, store, [0; PLACES], order);
-    outcome.memories
-}
-
-// Runs one block: `size` samples, from the one at `first` on.
-fn run_block(
-    first: usize,
-    size: usize,
-    samples: &mut [f32],
-    memories: Memories,
-    store: &mut [f32],
-    order: &[usize],
-) -> Memories
-    requires { first + size ≤ length samples.old }
+// Runs the echo in blocks. A block has as many samples as the order has entries, since both count 2 a frame.
+pub(crate) fn echo(order: &[usize]) -> Ended
+    requires { 0 < length order.now }
 {
-    run_on(&mut samples[first..first + size], memories, store, order)
-}
-
-// Runs block after block. A block has as many samples as the order has entries, since both count 2 a frame.
-fn run_blocks(samples: &mut [f32], store: &mut [f32], order: &[usize]) -> Memories
-    requires { (0 < length order.now) × (length order.now ≤ 8192) }
-{
-    let size = order.len();
-    let mut memories = zero();
-    let mut first = 0;
-    while first + size <= samples.len() {
-        let after = run_block(first, size, samples, memories, store, order);
-        memories = after;
-        first += size;
-    }
-    memories
-}
-
-// Runs the echo in blocks with as many samples as the order has room for entries.
-pub(crate) fn echo(order: &mut [usize], by_frame: bool) -> Ended
-    requires { (0 < length order.old) × (length order.old ≤ 8192) }
-{
-    let mut samples = [0.0; 8192];
-    fill(&mut samples, order, by_frame);
+    let mut samples = array::from_fn(noise);
     let mut store = [0.0; 200];
-    let memories = run_blocks(&mut samples, &mut store, order);
+    let mut memories = zero();
+    for block in samples.chunks_exact_mut(order.len()) {
+        if let Ok(outcome) = run(setup(), block, memories, &mut store, [0; PLACES], order) {
+            memories = outcome.memories;
+        }
+    }
     Ended {
         samples,
         store,

@@ -1,59 +1,29 @@
 // What the echo left, with the last number of one part changed: a float by its lowest bit.
 use crate::echo::Ended;
-use float::bits::{from_bits_f32, to_bits_f32};
-use memories::{ALL_FLOATS, ALL_POSITIONS, Memories};
+use float::bits::{from_bits, to_bits};
+use memories::{ALL_FLOATS, ALL_POSITIONS};
 
 fn next_to(x: f32) -> f32 {
-    let bits = to_bits_f32(x);
-    from_bits_f32(bits / 2 * 2 + (1 - bits % 2))
+    from_bits(to_bits(x) ^ 1)
 }
 
-pub(crate) fn sample(ended: Ended) -> Ended {
-    let mut samples = ended.samples;
-    samples[8191] = next_to(samples[8191]);
-    let store = ended.store;
-    let memories = ended.memories;
-    Ended {
-        samples,
-        store,
-        memories,
-    }
+pub(crate) fn sample(mut ended: Ended) -> Ended {
+    ended.samples[8191] = next_to(ended.samples[8191]);
+    ended
 }
 
-pub(crate) fn line(ended: Ended) -> Ended {
-    let samples = ended.samples;
-    let mut store = ended.store;
-    store[199] = next_to(store[199]);
-    let memories = ended.memories;
-    Ended {
-        samples,
-        store,
-        memories,
-    }
+pub(crate) fn line(mut ended: Ended) -> Ended {
+    ended.store[199] = next_to(ended.store[199]);
+    ended
 }
 
-fn with_memories(ended: Ended, memories: Memories) -> Ended {
-    let samples = ended.samples;
-    let store = ended.store;
-    Ended {
-        samples,
-        store,
-        memories,
-    }
-}
-
-pub(crate) fn float(ended: Ended) -> Ended {
-    let memories = ended.memories;
-    let positions = memories.positions;
-    let mut floats = memories.floats;
+pub(crate) fn float(mut ended: Ended) -> Ended {
+    let floats = &mut ended.memories.floats;
     floats[ALL_FLOATS - 1] = next_to(floats[ALL_FLOATS - 1]);
-    with_memories(ended, Memories { positions, floats })
+    ended
 }
 
-pub(crate) fn position(ended: Ended) -> Ended {
-    let memories = ended.memories;
-    let floats = memories.floats;
-    let mut positions = memories.positions;
-    positions[ALL_POSITIONS - 1] = 1;
-    with_memories(ended, Memories { positions, floats })
+pub(crate) fn position(mut ended: Ended) -> Ended {
+    ended.memories.positions[ALL_POSITIONS - 1] = 1;
+    ended
 }

@@ -4,8 +4,8 @@
 #![tactic(auto)]
 
 mod block;
+mod case;
 mod list;
-mod say;
 mod unchanged;
 
 use std::io;
@@ -15,10 +15,8 @@ fn main(rt: HostRuntime) -> io::Result<()> {
     list::counts(&rt)?;
     list::depths(&rt)?;
     list::owned(&rt)?;
-    list::most_owned(&rt)?;
     list::volumes(&rt)?;
     list::delays(&rt)?;
-    list::feedbacks(&rt)?;
     list::equalizers(&rt)?;
     list::distortions(&rt)?;
     list::stores(&rt)?;
@@ -29,9 +27,7 @@ fn main(rt: HostRuntime) -> io::Result<()> {
     block::owning(&rt)?;
     block::orders(&rt)?;
     block::empty(&rt)?;
-    unchanged::refused_step(&rt)?;
-    unchanged::taken_step(&rt)?;
-    unchanged::cleared(&rt)?;
-    unchanged::refused_start(&rt)?;
+    unchanged::steps(&rt)?;
+    unchanged::starts(&rt)?;
     unchanged::rendered(&rt)
 }

@@ -1,38 +1,22 @@
 // The coefficients of EQs, in f64, on the settings of coefficients.rt.
-ghost use Rattle.std.specs.Prelude.{◌+◌, ◌≤◌};
-
-use crate::coefficients;
+use crate::coefficients::{ANSWERS, G, GAIN, Q};
+use crate::try_all;
 use filters::eq_filter::{Coefficients, EqFilterKind};
-use float::bits::{from_bits_f64, to_bits_f64};
+use float::bits::{from_bits, to_bits};
+use std::io;
 
-fn kind(i: usize) -> EqFilterKind {
-    if i % 3 == 0 {
-        return EqFilterKind::Bell;
-    }
-    if i % 3 == 1 {
-        return EqFilterKind::LowShelf;
-    }
-    EqFilterKind::HighShelf
-}
+const KINDS: [EqFilterKind; 3] = [
+    EqFilterKind::Bell,
+    EqFilterKind::LowShelf,
+    EqFilterKind::HighShelf,
+];
 
-// Whether these are the six from `at` on.
-fn is_same(c: Coefficients, at: usize) -> bool
-    requires { at + 6 ≤ 288 }
-{
-    (to_bits_f64(c.a1) == coefficients::ANSWERS[at])
-        & (to_bits_f64(c.a2) == coefficients::ANSWERS[at + 1])
-        & (to_bits_f64(c.a3) == coefficients::ANSWERS[at + 2])
-        & (to_bits_f64(c.m0) == coefficients::ANSWERS[at + 3])
-        & (to_bits_f64(c.m1) == coefficients::ANSWERS[at + 4])
-        & (to_bits_f64(c.m2) == coefficients::ANSWERS[at + 5])
-}
-
-pub(crate) fn agrees(i: usize) -> bool {
-    if i < 48 {
-        let g = from_bits_f64(coefficients::G[i]);
-        let q = from_bits_f64(coefficients::Q[i]);
-        let gain = coefficients::GAIN[i];
-        return is_same(Coefficients::calculate(kind(i), g, q, gain), 6 * i);
-    }
-    false
+pub(crate) fn try_coefficients(rt: &impl Print) -> io::Result<()> {
+    let (answers, _) = ANSWERS.as_chunks::<6>();
+    let settings = KINDS.iter().cycle().zip(&G).zip(&Q).zip(&GAIN);
+    let agreements = settings.zip(answers).map(|((((kind, g), q), gain), answer)| {
+        let c = Coefficients::calculate(*kind, from_bits(*g), from_bits(*q), *gain);
+        [c.a1, c.a2, c.a3, c.m0, c.m1, c.m2].map(to_bits::<f64>) == *answer
+    });
+    try_all(rt, "coefficients", agreements)
 }

@@ -1,70 +1,23 @@
-// The operations of the crate `frame`, on the inputs of frames.rt.
-ghost use Rattle.std.specs.Prelude.{◌<◌};
-
-use crate::frames;
-use float::bits::{from_bits_f32, to_bits_f32};
+// One operation of the crate `frame`, on the inputs of frames.rt.
+use crate::{frames, try_all};
+use float::bits::{from_bits, to_bits};
 use frame::Frame;
+use std::io;
 
-#[derive(Clone, Copy)]
-pub(crate) enum Operation {
-    Zero,
-    New,
-    FromMono,
-    AsMono,
-    Add,
-    Sub,
-    Mul,
-    Div,
-    Neg,
-    Panned,
-}
-
-fn number(at: usize) -> f32
-    requires { at < 70 }
+pub(crate) fn try_frame<O: Fn(Frame, Frame, f32) -> Frame + Drop>(
+    rt: &impl Print,
+    name: &str,
+    answers: &[u32],
+    operation: O,
+) -> io::Result<()>
+    requires { O.IsAlwaysCallable operation }
 {
-    from_bits_f32(frames::INPUTS[at])
-}
-
-fn given(operation: Operation, a: Frame, b: Frame, n: f32) -> Frame {
-    match operation {
-        Operation::Zero => Frame::zero(),
-        Operation::New => Frame::new(a.left, a.right),
-        Operation::FromMono => Frame::from_mono(n),
-        Operation::AsMono => a.as_mono(),
-        Operation::Add => a.add(b),
-        Operation::Sub => a.sub(b),
-        Operation::Mul => a.mul(n),
-        Operation::Div => a.div(n),
-        Operation::Neg => a.neg(),
-        Operation::Panned => a.panned(n),
-    }
-}
-
-fn answer(operation: Operation, at: usize) -> u32
-    requires { at < 28 }
-{
-    match operation {
-        Operation::Zero => frames::ZERO[at],
-        Operation::New => frames::NEW[at],
-        Operation::FromMono => frames::FROM_MONO[at],
-        Operation::AsMono => frames::AS_MONO[at],
-        Operation::Add => frames::ADD[at],
-        Operation::Sub => frames::SUB[at],
-        Operation::Mul => frames::MUL[at],
-        Operation::Div => frames::DIV[at],
-        Operation::Neg => frames::NEG[at],
-        Operation::Panned => frames::PANNED[at],
-    }
-}
-
-pub(crate) fn agrees(operation: Operation, i: usize) -> bool {
-    if i < 14 {
-        let a = Frame::new(number(5 * i), number(5 * i + 1));
-        let b = Frame::new(number(5 * i + 2), number(5 * i + 3));
-        let frame = given(operation, a, b, number(5 * i + 4));
-        let is_left = to_bits_f32(frame.left) == answer(operation, 2 * i);
-        let is_right = to_bits_f32(frame.right) == answer(operation, 2 * i + 1);
-        return is_left & is_right;
-    }
-    false
+    let (inputs, _) = frames::INPUTS.as_chunks::<5>();
+    let (answers, _) = answers.as_chunks::<2>();
+    let agreements = inputs.iter().zip(answers).map(|(input, answer)| {
+        let [a, b, c, d, n] = input.map(from_bits::<f32>);
+        let frame = operation(Frame::new(a, b), Frame::new(c, d), n);
+        [to_bits(frame.left), to_bits(frame.right)] == *answer
+    });
+    try_all(rt, name, agreements)
 }

@@ -5,6 +5,8 @@
 // nothing is seen.
 #![tactic(auto)]
 
+ghost use Rattle.std.specs.Iterator.{IsFinite};
+
 mod coefficients;
 mod equalized;
 mod floats;
@@ -12,79 +14,126 @@ mod framed;
 mod frames;
 mod sample;
 
+use float::clamp::{abs, at_least_hundredth, clamp_signed_unit, clamp_unit};
+use floats::try_float;
+use frame::Frame;
+use framed::try_frame;
+use rounding::narrow::as_f32;
+use rounding::sqrt::sqrt;
 use std::io;
 
-#[derive(Clone, Copy)]
-enum Operation {
-    SqrtF32,
-    SqrtF64,
-    AsF32,
-    AbsF32,
-    UnitF32,
-    SignedUnitF32,
-    UnitF64,
-    HundredthF64,
-    Equalized,
-    Framed { operation: framed::Operation },
-}
-
-fn agrees(operation: Operation, i: usize) -> bool {
-    match operation {
-        Operation::SqrtF32 => floats::sqrt_f32_agrees(i),
-        Operation::SqrtF64 => floats::sqrt_f64_agrees(i),
-        Operation::AsF32 => floats::as_f32_agrees(i),
-        Operation::AbsF32 => floats::abs_f32_agrees(i),
-        Operation::UnitF32 => floats::clamp_unit_f32_agrees(i),
-        Operation::SignedUnitF32 => floats::clamp_signed_unit_f32_agrees(i),
-        Operation::UnitF64 => floats::clamp_unit_f64_agrees(i),
-        Operation::HundredthF64 => floats::at_least_hundredth_f64_agrees(i),
-        Operation::Equalized => equalized::agrees(i),
-        Operation::Framed { operation } => framed::agrees(operation, i),
-    }
-}
-
-fn say_difference(rt: &impl Print, name: &str, i: usize) -> io::Result<()> {
-    println!(rt; "{name} differs at {i}")
-}
-
-fn say_agreed(rt: &impl Print, name: &str, agreed: u64, count: u64) -> io::Result<()> {
-    println!(rt; "{name} {agreed} of {count}")
-}
-
-fn try_all(rt: &impl Print, name: &str, operation: Operation, count: usize) -> io::Result<()> {
+// Says which of the answers differ, and how many agree.
+pub(crate) fn try_all<I: Iterator<Item = bool> + Drop>(
+    rt: &impl Print,
+    name: &str,
+    agreements: I,
+) -> io::Result<()>
+    requires can { I.can_next agreements }
+    requires ends { IsFinite (I.remaining agreements) }
+{
+    let mut tried: u64 = 0;
     let mut agreed: u64 = 0;
-    for i in 0..count {
-        if agrees(operation, i) {
-            agreed += 1;
+    for agrees in agreements {
+        if agrees {
+            agreed = agreed.saturating_add(1);
         } else {
-            say_difference(rt, name, i)?;
+            println!(rt; "{name} differs at {tried}")?;
         }
+        tried = tried.saturating_add(1);
     }
-    say_agreed(rt, name, agreed, count as u64)
+    println!(rt; "{name} {agreed} of {tried}")
 }
 
-fn try_framed(rt: &impl Print, name: &str, operation: framed::Operation) -> io::Result<()> {
-    try_all(rt, name, Operation::Framed { operation }, 14)
+fn try_floats(rt: &impl Print) -> io::Result<()> {
+    use sample::*;
+    try_float(
+        rt,
+        "sqrt_f32",
+        &SQRT_F32_INPUTS,
+        &SQRT_F32_ANSWERS,
+        |x: f32| sqrt(x),
+    )?;
+    try_float(
+        rt,
+        "sqrt_f64",
+        &SQRT_F64_INPUTS,
+        &SQRT_F64_ANSWERS,
+        |x: f64| sqrt(x),
+    )?;
+    try_float(
+        rt,
+        "as_f32",
+        &AS_F32_INPUTS,
+        &AS_F32_ANSWERS,
+        |x: f64| as_f32(x),
+    )?;
+    try_float(
+        rt,
+        "abs_f32",
+        &ABS_F32_INPUTS,
+        &ABS_F32_ANSWERS,
+        |x: f32| abs(x),
+    )?;
+    try_float(
+        rt,
+        "clamp_unit_f32",
+        &UNIT_F32_INPUTS,
+        &UNIT_F32_ANSWERS,
+        |x: f32| clamp_unit(x),
+    )?;
+    try_float(
+        rt,
+        "clamp_signed_unit_f32",
+        &SIGNED_UNIT_F32_INPUTS,
+        &SIGNED_UNIT_F32_ANSWERS,
+        |x: f32| clamp_signed_unit(x),
+    )?;
+    try_float(
+        rt,
+        "clamp_unit_f64",
+        &UNIT_F64_INPUTS,
+        &UNIT_F64_ANSWERS,
+        |x: f64| clamp_unit(x),
+    )?;
+    try_float(
+        rt,
+        "at_least_hundredth_f64",
+        &HUNDREDTH_F64_INPUTS,
+        &HUNDREDTH_F64_ANSWERS,
+        |x: f64| at_least_hundredth(x),
+    )
+}
+
+fn try_frames(rt: &impl Print) -> io::Result<()> {
+    try_frame(rt, "zero", &frames::ZERO, |_, _, _| Frame::zero())?;
+    try_frame(
+        rt,
+        "new",
+        &frames::NEW,
+        |a: Frame, _, _| Frame::new(a.left, a.right),
+    )?;
+    try_frame(
+        rt,
+        "from_mono",
+        &frames::FROM_MONO,
+        |_, _, n| Frame::from_mono(n),
+    )?;
+    try_frame(
+        rt,
+        "as_mono",
+        &frames::AS_MONO,
+        |a: Frame, _, _| a.as_mono(),
+    )?;
+    try_frame(rt, "add", &frames::ADD, |a: Frame, b, _| a.add(b))?;
+    try_frame(rt, "sub", &frames::SUB, |a: Frame, b, _| a.sub(b))?;
+    try_frame(rt, "mul", &frames::MUL, |a: Frame, _, n| a.mul(n))?;
+    try_frame(rt, "div", &frames::DIV, |a: Frame, _, n| a.div(n))?;
+    try_frame(rt, "neg", &frames::NEG, |a: Frame, _, _| a.neg())?;
+    try_frame(rt, "panned", &frames::PANNED, |a: Frame, _, n| a.panned(n))
 }
 
 fn main(rt: HostRuntime) -> io::Result<()> {
-    try_all(&rt, "sqrt_f32", Operation::SqrtF32, 102)?;
-    try_all(&rt, "sqrt_f64", Operation::SqrtF64, 102)?;
-    try_all(&rt, "as_f32", Operation::AsF32, 102)?;
-    try_all(&rt, "abs_f32", Operation::AbsF32, 22)?;
-    try_all(&rt, "clamp_unit_f32", Operation::UnitF32, 22)?;
-    try_all(&rt, "clamp_signed_unit_f32", Operation::SignedUnitF32, 22)?;
-    try_all(&rt, "clamp_unit_f64", Operation::UnitF64, 24)?;
-    try_all(&rt, "at_least_hundredth_f64", Operation::HundredthF64, 24)?;
-    try_all(&rt, "coefficients", Operation::Equalized, 48)?;
-    try_framed(&rt, "zero", framed::Operation::Zero)?;
-    try_framed(&rt, "new", framed::Operation::New)?;
-    try_framed(&rt, "from_mono", framed::Operation::FromMono)?;
-    try_framed(&rt, "as_mono", framed::Operation::AsMono)?;
-    try_framed(&rt, "add", framed::Operation::Add)?;
-    try_framed(&rt, "sub", framed::Operation::Sub)?;
-    try_framed(&rt, "mul", framed::Operation::Mul)?;
-    try_framed(&rt, "div", framed::Operation::Div)?;
-    try_framed(&rt, "neg", framed::Operation::Neg)?;
-    try_framed(&rt, "panned", framed::Operation::Panned)
+    try_floats(&rt)?;
+    equalized::try_coefficients(&rt)?;
+    try_frames(&rt)
 }

@@ -1,92 +1,62 @@
-// Calls a function of the crate `sedhavil` by its number: 0 runs an order, 1 renders, 2 starts, and 3 asks
-// for the floats needed.
-ghost use Rattle.std.specs.Prelude.{◌≤◌};
-
-use crate::units::{long, unit};
+// The call that a case makes.
+use crate::head::{Function, Head};
+use crate::held::Held;
 use sedhavil::{
     Reply, Room, sedhavil_floats_needed, sedhavil_render, sedhavil_run, sedhavil_start,
 };
 
-fn reply(
-    function: usize,
-    rate: u32,
-    stages: &[u64],
-    samples: &mut [f32],
-    positions: &mut [usize],
-    floats: &mut [f32],
-    store: &mut [f32],
-    progress: &mut [usize],
-    order: &[usize],
-) -> Reply {
-    if function == 0 {
-        return sedhavil_run(
-            rate, stages, samples, positions, floats, store, progress, order,
-        );
-    }
-    if function == 1 {
-        return sedhavil_render(rate, stages, samples, positions, floats, store, progress);
-    }
-    sedhavil_start(rate, stages, positions, floats, store)
+// What a call answers: with 0 floats where it gives none.
+#[derive(Clone, Copy, PartialEq)]
+pub(crate) struct Told {
+    pub number: u32,
+    pub place: usize,
+    pub floats: usize,
 }
 
-// With 0 floats from the functions that give none.
-fn room(
-    function: usize,
-    rate: u32,
-    stages: &[u64],
-    samples: &mut [f32],
-    positions: &mut [usize],
-    floats: &mut [f32],
-    store: &mut [f32],
-    progress: &mut [usize],
-    order: &[usize],
-) -> Room {
-    if function == 3 {
-        return sedhavil_floats_needed(rate, stages);
-    }
-    let given = reply(
-        function, rate, stages, samples, positions, floats, store, progress, order,
-    );
-    Room {
-        number: given.number,
-        place: given.place,
-        floats: 0,
+impl From<Reply> for Told {
+    fn from(reply: Reply) -> Told {
+        Told {
+            number: reply.number,
+            place: reply.place,
+            floats: 0,
+        }
     }
 }
 
-fn least(n: usize, most: usize) -> usize
-    ensures { result ≤ most }
-{
-    if n < most { n } else { most }
+impl From<Room> for Told {
+    fn from(room: Room) -> Told {
+        Told {
+            number: room.number,
+            place: room.place,
+            floats: room.floats,
+        }
+    }
+}
+
+// The first n items, or all where there are fewer.
+fn first<T>(items: &mut [T], n: u16) -> &mut [T] {
+    let n = usize::from(n).min(items.len());
+    &mut items[..n]
 }
 
 // The call that the head says, on the first of each as many as it says.
-pub(crate) fn call(
-    head: &[u8],
-    words: &[u64],
-    samples: &mut [f32],
-    store: &mut [f32],
-    positions: &mut [usize],
-    floats: &mut [f32],
-    progress: &mut [usize],
-    order: &[usize],
-) -> Room {
-    let word_count = least(unit(head, 3), words.len());
-    let sample_count = least(unit(head, 4), samples.len());
-    let store_size = least(unit(head, 5), store.len());
-    let position_count = least(unit(head, 6), positions.len());
-    let float_count = least(unit(head, 7), floats.len());
-    let progress_count = least(unit(head, 8), progress.len());
-    let entries = least(unit(head, 9), order.len());
-    room(
-        unit(head, 0),
-        long(head, 1) as u32,
-        &words[..word_count],
-        &mut samples[..sample_count],
-        &mut positions[..position_count],
-        &mut floats[..float_count],
-        &mut store[..store_size],
-        &mut progress[..progress_count],
-        &order[..entries],
-    )
+pub(crate) fn call(head: &Head, words: &mut [u64], order: &mut [usize], held: &mut Held) -> Told {
+    let rate = head.rate;
+    let words = first(words, head.lengths.words);
+    let samples = first(&mut held.samples, head.lengths.samples);
+    let store = first(&mut held.store, head.lengths.store);
+    let positions = first(&mut held.positions, head.lengths.positions);
+    let floats = first(&mut held.floats, head.lengths.floats);
+    let progress = first(&mut held.progress, head.lengths.progress);
+    let order = first(order, head.lengths.order);
+    match head.function {
+        Function::Run => Told::from(sedhavil_run(
+            rate, words, samples, positions, floats, store, progress, order,
+        )),
+        Function::Render => Told::from(sedhavil_render(
+            rate, words, samples, positions, floats, store, progress,
+        )),
+        Function::Start => Told::from(sedhavil_start(rate, words, positions, floats, store)),
+        Function::FloatsNeeded => Told::from(sedhavil_floats_needed(rate, words)),
+    }
 }

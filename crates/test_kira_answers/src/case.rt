@@ -1,203 +1,100 @@
 // A case is a head of 28 units and a body of twelve sections. The head has the function's number; the rate
 // (two units); how long the slices are that it gets: words, samples, store, positions, floats, progress and
 // order; what it must answer: a number, a place (two units) and the floats needed (two units); and where
-// each section starts and the last one ends. The first section has the stages' words. Five have the samples,
-// store, positions, floats and progress at entry, 0 where nothing is said. One has the order. The last five
-// have what the call changes of the samples and the others.
-ghost use Rattle.std.specs.Prelude.{◌≤◌, length};
+// each section starts and the last one ends. Each entry of a section says a place and what is put there. The
+// first section has the stages' words. Five have the samples, store, positions, floats and progress at
+// entry, 0 where nothing is said. One has the order. The last five have what the call changes of the samples
+// and the others.
+ghost use Rattle.std.specs.Prelude.{◌≤◌, ◌<◌, length};
 
 use crate::call::call;
-use crate::put::{put_floats, put_numbers, put_words};
-use crate::same::is_same;
-use crate::units::{long, unit};
-use sedhavil::Room;
+use crate::head::{Head, read_head};
+use crate::held::Held;
+use crate::units::{Unit, float, number, place, word};
 use std::io;
 use std::io::Read;
 
-// All that a call may change, each with room for the longest slice of a case.
-#[derive(Clone, Copy)]
-pub(crate) struct Held {
-    pub samples: [f32; 8194],
-    pub store: [f32; 16384],
-    pub positions: [usize; 385],
-    pub floats: [f32; 321],
-    pub progress: [usize; 17],
-}
+// The section of the stages' words.
+const WORDS: usize = 0;
 
-// What came of a call.
-#[derive(Clone, Copy)]
-struct Answered {
-    held: Held,
-    room: Room,
-}
+// The first of the five sections of what is held at entry.
+const AT_ENTRY: usize = 1;
 
+// The order's section.
+const ORDER: usize = 6;
+
+// The first of the five sections of what the call changes.
+const CHANGES: usize = 7;
+
+// What came of a call: the number that it answered, and whether it answered and left what the case says.
 #[derive(Clone, Copy)]
 pub(crate) struct Judged {
-    pub number: usize,
+    pub number: u32,
     pub is_same: bool,
 }
 
-// Where a section starts; at 12, where the last one ends.
-fn start(head: &[u8], section: usize) -> usize
-    requires { section ≤ 12 }
-    ensures { result ≤ 65535 }
-{
-    unit(head, 15 + section)
+#[derive(Clone, Copy)]
+struct Case<'a> {
+    head: Head,
+    body: &'a [Unit; 65535],
 }
 
-fn samples_with(samples: [f32; 8194], head: &[u8], body: &[u8], k: usize) -> [f32; 8194]
-    requires { k ≤ 11 }
-{
-    let mut changed = samples;
-    put_floats(body, start(head, k), start(head, k + 1), &mut changed);
-    changed
-}
+impl Case<'_> {
+    // Puts what the entries of section k say, each of so many units: those that begin in the section.
+    fn put<T: Drop, F: Fn(&[Unit]) -> T>(&self, k: usize, units: usize, items: &mut [T], value: F)
+        requires section { k < 12 }
+        requires units { 0 < units }
+        requires value { F.IsAlwaysCallable value }
+    {
+        let from = usize::from(self.head.starts[k]);
+        let to = usize::from(self.head.starts[k + 1]);
+        let entries = to.saturating_sub(from).div_ceil(units);
+        let body = self.body;
+        for entry in body[from..].chunks(units).take(entries) {
+            if let Some(item) = items.get_mut(place(entry)) {
+                *item = value(entry);
+            }
+        }
+    }
 
-fn store_with(store: [f32; 16384], head: &[u8], body: &[u8], k: usize) -> [f32; 16384]
-    requires { k ≤ 11 }
-{
-    let mut changed = store;
-    put_floats(body, start(head, k), start(head, k + 1), &mut changed);
-    changed
-}
+    // Puts what section k and the four after it say.
+    fn put_all(&self, k: usize, held: &mut Held)
+        requires { k < 8 }
+    {
+        self.put(k, 3, &mut held.samples, float);
+        self.put(k + 1, 3, &mut held.store, float);
+        self.put(k + 2, 2, &mut held.positions, number);
+        self.put(k + 3, 3, &mut held.floats, float);
+        self.put(k + 4, 2, &mut held.progress, number);
+    }
 
-fn positions_with(positions: [usize; 385], head: &[u8], body: &[u8], k: usize) -> [usize; 385]
-    requires { k ≤ 11 }
-{
-    let mut changed = positions;
-    put_numbers(body, start(head, k), start(head, k + 1), &mut changed);
-    changed
-}
-
-fn floats_with(floats: [f32; 321], head: &[u8], body: &[u8], k: usize) -> [f32; 321]
-    requires { k ≤ 11 }
-{
-    let mut changed = floats;
-    put_floats(body, start(head, k), start(head, k + 1), &mut changed);
-    changed
-}
-
-fn progress_with(progress: [usize; 17], head: &[u8], body: &[u8], k: usize) -> [usize; 17]
-    requires { k ≤ 11 }
-{
-    let mut changed = progress;
-    put_numbers(body, start(head, k), start(head, k + 1), &mut changed);
-    changed
-}
-
-// What is held, changed as sections k to k + 4 say.
-fn held_with(held: Held, head: &[u8], body: &[u8], k: usize) -> Held
-    requires { k ≤ 7 }
-{
-    let samples = held.samples;
-    let store = held.store;
-    let positions = held.positions;
-    let floats = held.floats;
-    let progress = held.progress;
-    let samples = samples_with(samples, head, body, k);
-    let store = store_with(store, head, body, k + 1);
-    let positions = positions_with(positions, head, body, k + 2);
-    let floats = floats_with(floats, head, body, k + 3);
-    let progress = progress_with(progress, head, body, k + 4);
-    Held {
-        samples,
-        store,
-        positions,
-        floats,
-        progress,
+    fn judge(&self) -> Judged {
+        let mut words = [0; 252];
+        self.put(WORDS, 5, &mut words, word);
+        let mut order = [0; 256];
+        self.put(ORDER, 2, &mut order, number);
+        let mut held = Held::zero();
+        self.put_all(AT_ENTRY, &mut held);
+        let mut expected = held;
+        self.put_all(CHANGES, &mut expected);
+        let told = call(&self.head, &mut words, &mut order, &mut held);
+        Judged {
+            number: told.number,
+            is_same: told == self.head.told && held.is_same(&expected),
+        }
     }
 }
 
-fn at_entry(head: &[u8], body: &[u8]) -> Held {
-    let silence = Held {
-        samples: [0.0; 8194],
-        store: [0.0; 16384],
-        positions: [0; 385],
-        floats: [0.0; 321],
-        progress: [0; 17],
-    };
-    held_with(silence, head, body, 1)
-}
-
-fn words(head: &[u8], body: &[u8]) -> [u64; 252] {
-    let mut words = [0; 252];
-    put_words(body, start(head, 0), start(head, 1), &mut words);
-    words
-}
-
-fn order(head: &[u8], body: &[u8]) -> [usize; 256] {
-    let mut order = [0; 256];
-    put_numbers(body, start(head, 6), start(head, 7), &mut order);
-    order
-}
-
-fn perform(head: &[u8], body: &[u8], held: Held) -> Answered {
-    let words = words(head, body);
-    let order = order(head, body);
-    let mut samples = held.samples;
-    let mut store = held.store;
-    let mut positions = held.positions;
-    let mut floats = held.floats;
-    let mut progress = held.progress;
-    let room = call(
-        head,
-        &words,
-        &mut samples,
-        &mut store,
-        &mut positions,
-        &mut floats,
-        &mut progress,
-        &order,
-    );
-    let held = Held {
-        samples,
-        store,
-        positions,
-        floats,
-        progress,
-    };
-    Answered { held, room }
-}
-
-// Whether a call answers what the head says.
-fn is_told(room: Room, head: &[u8]) -> bool {
-    if room.number as usize != unit(head, 10) {
-        return false;
-    }
-    if room.place != long(head, 11) {
-        return false;
-    }
-    room.floats == long(head, 13)
-}
-
-fn judge(head: &[u8], body: &[u8]) -> Judged {
-    let held = at_entry(head, body);
-    let expected = held_with(held, head, body, 7);
-    let done = perform(head, body, held);
-    let room = done.room;
-    let number = room.number as usize;
-    if !is_told(room, head) {
-        return Judged {
-            number,
-            is_same: false,
-        };
-    }
-    Judged {
-        number,
-        is_same: is_same(done.held, expected),
-    }
-}
-
-fn read_body(input: &mut impl Read, body: &mut [u8], n: usize) -> io::Result<()>
+fn read_body(input: &mut impl Read, body: &mut [Unit], n: usize) -> io::Result<()>
     requires { n ≤ length body.old }
 {
-    input.read_exact(&mut body[..n])
+    input.read_exact(body[..n].as_flattened_mut())
 }
 
 pub(crate) fn next_case(input: &mut impl Read) -> io::Result<Judged> {
-    let mut head = [0; 56];
-    input.read_exact(&mut head)?;
-    let mut body = [0; 131070];
-    read_body(input, &mut body, 2 * start(&head, 12))?;
-    Ok(judge(&head, &body))
+    let head = read_head(input)?;
+    let mut body = [[0; 2]; 65535];
+    read_body(input, &mut body, usize::from(head.starts[12]))?;
+    let case = Case { head, body: &body };
+    Ok(case.judge())
 }

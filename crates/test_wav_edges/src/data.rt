@@ -1,6 +1,5 @@
-// Cases of single samples, by their numbers, and of blocks of frames.
-use crate::say;
-use float::bits::from_bits_f32;
+// Cases of single samples, and of blocks of frames.
+use float::bits::{from_bits, to_bits};
 use sedhavil_wav::{sedhavil_wav_frames_in, sedhavil_wav_frames_out};
 use std::io;
 
@@ -20,56 +19,33 @@ const FLOATS: [u32; 26] = [
     0x800000, 0xbf000000,
 ];
 
-pub(crate) fn sample_in(rt: &impl Print, k: usize) -> io::Result<()> {
-    let bytes = CODES;
+pub(crate) fn samples_in(rt: &impl Print) -> io::Result<()> {
     let mut samples = [0.0; 8];
-    sedhavil_wav_frames_in(&bytes, &mut samples);
-    if k < 8 {
-        say::name(rt, "in")?;
-        say::next(rt, k as u64)?;
-        say::bits(rt, samples[k])?;
-        say::end(rt)?;
+    sedhavil_wav_frames_in(&CODES, &mut samples);
+    for (k, x) in samples.into_iter().enumerate() {
+        println!(rt; "in {k} {}", to_bits(x))?;
     }
     Ok(())
 }
 
 // Float k goes out at place k of a block of zeros.
-pub(crate) fn sample_out(rt: &impl Print, k: usize) -> io::Result<()> {
-    if k < 26 {
+pub(crate) fn samples_out(rt: &impl Print) -> io::Result<()> {
+    for (k, bits) in FLOATS.into_iter().enumerate() {
         let mut samples = [0.0; 26];
-        samples[k] = from_bits_f32(FLOATS[k]);
+        samples[k] = from_bits(bits);
         let mut bytes = [0; 52];
         sedhavil_wav_frames_out(&samples, &mut bytes);
-        say::name(rt, "out")?;
-        say::next(rt, k as u64)?;
-        say::byte(rt, bytes[2 * k])?;
-        say::byte(rt, bytes[2 * k + 1])?;
-        say::end(rt)?;
+        println!(rt; "out {k} {} {}", bytes[2 * k], bytes[2 * k + 1])?;
     }
     Ok(())
 }
 
-// How many frames go in, from so many bytes into so many samples.
-fn count_in(rt: &impl Print, bytes: &[u8], samples: &mut [f32]) -> io::Result<()> {
-    say::name(rt, "frames_in")?;
-    say::next(rt, bytes.len() as u64)?;
-    say::next(rt, samples.len() as u64)?;
-    say::next(rt, sedhavil_wav_frames_in(bytes, samples) as u64)?;
-    say::end(rt)
-}
-
-// How many frames go out, from so many samples into so many bytes.
-fn count_out(rt: &impl Print, samples: &[f32], bytes: &mut [u8]) -> io::Result<()> {
-    say::name(rt, "frames_out")?;
-    say::next(rt, samples.len() as u64)?;
-    say::next(rt, bytes.len() as u64)?;
-    say::next(rt, sedhavil_wav_frames_out(samples, bytes) as u64)?;
-    say::end(rt)
-}
-
+// How many frames go in, from so many bytes into so many samples, and how many go out again.
 fn count_both(rt: &impl Print, bytes: &mut [u8], samples: &mut [f32]) -> io::Result<()> {
-    count_in(rt, bytes, samples)?;
-    count_out(rt, samples, bytes)
+    let frames = sedhavil_wav_frames_in(bytes, samples);
+    println!(rt; "frames_in {} {} {frames}", bytes.len(), samples.len())?;
+    let frames = sedhavil_wav_frames_out(samples, bytes);
+    println!(rt; "frames_out {} {} {frames}", samples.len(), bytes.len())
 }
 
 // Bytes of no frame, a part of one, one, one and a half, almost two, and two; two with room for one; a
@@ -94,20 +70,16 @@ pub(crate) fn counts(rt: &impl Print) -> io::Result<()> {
 pub(crate) fn past(rt: &impl Print) -> io::Result<()> {
     let mut samples = [9.0; 4];
     sedhavil_wav_frames_in(&[0, 64, 0, 192, 255], &mut samples);
-    say::name(rt, "past_in")?;
-    say::bits(rt, samples[0])?;
-    say::bits(rt, samples[1])?;
-    say::bits(rt, samples[2])?;
-    say::bits(rt, samples[3])?;
-    say::end(rt)?;
+    print!(rt; "past_in")?;
+    for x in samples {
+        print!(rt; " {}", to_bits(x))?;
+    }
+    println!(rt;)?;
     let mut bytes = [7; 6];
     sedhavil_wav_frames_out(&[0.5, -0.5, 1.0], &mut bytes);
-    say::name(rt, "past_out")?;
-    say::byte(rt, bytes[0])?;
-    say::byte(rt, bytes[1])?;
-    say::byte(rt, bytes[2])?;
-    say::byte(rt, bytes[3])?;
-    say::byte(rt, bytes[4])?;
-    say::byte(rt, bytes[5])?;
-    say::end(rt)
+    print!(rt; "past_out")?;
+    for byte in bytes {
+        print!(rt; " {byte}")?;
+    }
+    println!(rt;)
 }

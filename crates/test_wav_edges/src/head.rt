@@ -1,9 +1,7 @@
-// Cases of the header, by their numbers. A header is eleven words of four bytes, and each case changes
-// some of them.
-ghost use Rattle.std.specs.Prelude.{◌<◌};
+// Cases of the header. A header is eleven words of four bytes, and each case changes some of them.
+ghost use Rattle.std.specs.Prelude.{◌≤◌};
 
-use crate::say;
-use sedhavil_wav::sedhavil_wav_header;
+use sedhavil_wav::{WavHeader, sedhavil_wav_header};
 use std::io;
 
 // The header of document 01's whole case: RIFF, its size, WAVE, fmt, its size, tag and channels, rate,
@@ -12,51 +10,53 @@ const GOOD: [u32; 11] = [
     0x46464952, 44, 0x45564157, 0x20746d66, 16, 0x20001, 48000, 192000, 0x100004, 0x61746164, 8,
 ];
 
-// Cases with one wrong word, and where it stands: the four names, fmt size, RIFF size, tag, channels,
-// bits, block, byte rate.
-const PLACES: [usize; 15] = [0, 2, 3, 9, 4, 4, 1, 1, 5, 5, 8, 8, 8, 7, 7];
-
-const VALUES: [u32; 15] = [
-    0x58464952, 0x46564157, 0x20746d46, 0x61746144, 14, 18, 43, 45, 0x20003, 0x10001, 0x80004,
-    0x180004, 0x100002, 191999, 192001,
+// Wrong words, and where each stands: the four names, fmt size, RIFF size, tag, channels, bits, block,
+// byte rate.
+const WRONG_WORDS: [(usize, u32); 15] = [
+    (0, 0x58464952),
+    (2, 0x46564157),
+    (3, 0x20746d46),
+    (9, 0x61746144),
+    (4, 14),
+    (4, 18),
+    (1, 43),
+    (1, 45),
+    (5, 0x20003),
+    (5, 0x10001),
+    (8, 0x80004),
+    (8, 0x180004),
+    (8, 0x100002),
+    (7, 191999),
+    (7, 192001),
 ];
 
-// Rates; below, the byte rate of each, which is the lowest 32 bits of four times the rate.
-const RATES: [u32; 8] = [0, 7999, 8000, 22050, 22051, 192000, 192001, 1073789824];
-
-const BYTE_RATES: [u32; 8] = [0, 31996, 32000, 88200, 88204, 768000, 768004, 192000];
-
-// Data sizes; below, the RIFF size of each, which is the lowest 32 bits of the data size plus 36.
-const SIZES: [u32; 9] = [
-    0, 4, 5, 6, 7, 4294967256, 4294967259, 4294967260, 4294967292,
+// Rates, and the byte rate of each, which is the lowest 32 bits of four times the rate.
+const RATES: [(u32, u32); 8] = [
+    (0, 0),
+    (7999, 31996),
+    (8000, 32000),
+    (22050, 88200),
+    (22051, 88204),
+    (192000, 768000),
+    (192001, 768004),
+    (1073789824, 192000),
 ];
 
-const RIFF_SIZES: [u32; 9] = [36, 40, 41, 42, 43, 4294967292, 4294967295, 0, 32];
+// Data sizes, and the RIFF size of each, which is the lowest 32 bits of the data size plus 36.
+const SIZES: [(u32, u32); 9] = [
+    (0, 36),
+    (4, 40),
+    (5, 41),
+    (6, 42),
+    (7, 43),
+    (4294967256, 4294967292),
+    (4294967259, 4294967295),
+    (4294967260, 0),
+    (4294967292, 32),
+];
 
-fn word(words: [u32; 11], at: usize, value: u32) -> [u32; 11] {
-    let mut changed = words;
-    if at < 11 {
-        changed[at] = value;
-    }
-    changed
-}
-
-fn byte(words: [u32; 11], i: usize) -> u8
-    requires { i < 44 }
-{
-    let w = words[i / 4];
-    ((w >> ((i % 4 * 8) as u32)) % 256) as u8
-}
-
-fn bytes_of(words: [u32; 11]) -> [u8; 44] {
-    let mut bytes = [0; 44];
-    for i in 0..44 {
-        bytes[i] = byte(words, i);
-    }
-    bytes
-}
-
-// Writes the case's name and number, and the answer to the first n bytes of a header.
+// Writes the case's name and number, and the answer to the first n bytes of a header: its number, and the
+// rate and the size, which are 0 for a header that is refused.
 fn say_cut(
     rt: &impl Print,
     name: &str,
@@ -64,19 +64,20 @@ fn say_cut(
     words: [u32; 11],
     n: usize,
     highest: u32,
-) -> io::Result<()> {
-    let bytes = bytes_of(words);
-    if n <= 44 {
-        say::name(rt, name)?;
-        say::next(rt, k as u64)?;
-        say::answer(rt, sedhavil_wav_header(&bytes[..n], highest))?;
-    }
-    Ok(())
+) -> io::Result<()>
+    requires { n ≤ 44 }
+{
+    let bytes = words.map(u32::to_le_bytes);
+    let WavHeader { number, rate, size } = sedhavil_wav_header(&bytes.as_flattened()[..n], highest);
+    println!(rt; "{name} {k} {number} {rate} {size}")
 }
 
 // The first k bytes of a good header; all of it at 44.
-pub(crate) fn cut(rt: &impl Print, k: usize) -> io::Result<()> {
-    say_cut(rt, "cut", k, GOOD, k, 192000)
+pub(crate) fn cuts(rt: &impl Print) -> io::Result<()> {
+    for k in 0..45 {
+        say_cut(rt, "cut", k, GOOD, k, 192000)?;
+    }
+    Ok(())
 }
 
 // A header with the faults 21 to 24 that the binary digits of k name, from the lowest.
@@ -100,36 +101,46 @@ fn faulty(k: usize) -> [u32; 11] {
 }
 
 // Every set of the five faults; the fifth is a header cut to 43 bytes.
-pub(crate) fn faults(rt: &impl Print, k: usize) -> io::Result<()> {
-    say_cut(
-        rt,
-        "faults",
-        k,
-        faulty(k),
-        if k < 16 { 44 } else { 43 },
-        192000,
-    )
+pub(crate) fn faults(rt: &impl Print) -> io::Result<()> {
+    for k in 0..32 {
+        say_cut(
+            rt,
+            "faults",
+            k,
+            faulty(k),
+            if k < 16 { 44 } else { 43 },
+            192000,
+        )?;
+    }
+    Ok(())
 }
 
-pub(crate) fn wrong_word(rt: &impl Print, k: usize) -> io::Result<()> {
-    if k < 15 {
-        let words = word(GOOD, PLACES[k], VALUES[k]);
+pub(crate) fn wrong_words(rt: &impl Print) -> io::Result<()> {
+    for (k, (at, value)) in WRONG_WORDS.into_iter().enumerate() {
+        let mut words = GOOD;
+        if let Some(word) = words.get_mut(at) {
+            *word = value;
+        }
         say_cut(rt, "word", k, words, 44, 192000)?;
     }
     Ok(())
 }
 
-pub(crate) fn rate(rt: &impl Print, name: &str, k: usize, highest: u32) -> io::Result<()> {
-    if k < 8 {
-        let words = word(word(GOOD, 6, RATES[k]), 7, BYTE_RATES[k]);
+pub(crate) fn rates(rt: &impl Print, name: &str, highest: u32) -> io::Result<()> {
+    for (k, (rate, byte_rate)) in RATES.into_iter().enumerate() {
+        let mut words = GOOD;
+        words[6] = rate;
+        words[7] = byte_rate;
         say_cut(rt, name, k, words, 44, highest)?;
     }
     Ok(())
 }
 
-pub(crate) fn size(rt: &impl Print, k: usize) -> io::Result<()> {
-    if k < 9 {
-        let words = word(word(GOOD, 10, SIZES[k]), 1, RIFF_SIZES[k]);
+pub(crate) fn sizes(rt: &impl Print) -> io::Result<()> {
+    for (k, (size, riff_size)) in SIZES.into_iter().enumerate() {
+        let mut words = GOOD;
+        words[10] = size;
+        words[1] = riff_size;
         say_cut(rt, "size", k, words, 44, 192000)?;
     }
     Ok(())

@@ -23,9 +23,7 @@ use Rattle.line_layout.specs.Layout.{needed_of}
 use Rattle.line_layout.specs.Lines.{lines_of}
 use Rattle.stage.specs.Range.{in_range_of}
 use Rattle.line_layout.proofs.FewLines.{few_lines}
-use Rattle.answer.specs.declared.Answer.{Answer}
-use Rattle.answer.specs.declared.Answer.TheVariants.{Accepted}
-use Rattle.answer.specs.Answer.{accepted_of}
+use Rattle.answer.specs.Answer.{Answer, accepted, accepted_of}
 use Rattle.top_stages.specs.Tops.{tops_of}
 use Rattle.refusals.specs.Refusals.{chain_rows, refusal_rows, chain_answer, answer_of}
 use Rattle.refusals.proofs.Parts.{part_clear}
@@ -93,9 +91,9 @@ module _ (setup : Setup) (floats : ℕ) (samples : List Float) (positions progre
   unfolding answer_of
   clear_of_accepted h = clear_of_rows (part_clear rows refl (omega arith) h)
 
-  pub accepted_of_clear : Clears → answer_of setup floats samples positions progress order ≡ Accepted
+  pub accepted_of_clear : Clears → answer_of setup floats samples positions progress order ≡ accepted
   unfolding answer_of
-  accepted_of_clear k = no_row_answer Accepted rows (rows_of_clear k)
+  accepted_of_clear k = no_row_answer accepted rows (rows_of_clear k)
 
 -- of a fresh start: every stage has a place
 pub start_few : (setup : Setup) (floats : ℕ) → accepted_of (chain_answer setup (needed_of setup) floats) ≡ true → setup.count ≤ places

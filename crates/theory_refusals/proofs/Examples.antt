@@ -8,6 +8,7 @@ use borrow.Author.Tests.{lt-ltb, le-leb}
 use lib.IntN.{pos}
 use lib.ListN.{length, replicate}
 use lib.Ieee.{Float, fin, le}
+use Rattle.std.specs.Prelude.{Err}
 use Rattle.float.specs.Literal.{literal}
 use Rattle.float.specs.Finite.{finite_of}
 use Rattle.theory_tables.specs.First.{first_from}
@@ -24,8 +25,8 @@ use Rattle.line_layout.specs.Layout.{start_of}
 use Rattle.answer.specs.Answer.{number_of, place_of}
 use Rattle.top_stages.specs.Tops.{tops_of}
 use Rattle.refusals.specs.Shape.{faulty, depth_of}
-use Rattle.order_entries.specs.declared.Rule.TheVariants.{Unbroken, NoStage, AtEnd, Level}
-use Rattle.order_entries.specs.Entries.{rule_of, stuck}
+use Rattle.order_entries.specs.declared.Rule.TheVariants.{NoStage, AtEnd, Level}
+use Rattle.order_entries.specs.Entries.{unbroken, rule_of, stuck}
 use Rattle.refusals.specs.Refusals.{answer_of}
 
 -- the chain with these stages more, at its end
@@ -117,26 +118,26 @@ depth_4 = refl
 abbrev pub progress : ℕ → ℕ → List ℕ
 progress a b = a ∷ b ∷ replicate (places - 2) 0
 
-pub rule_no_stage : rule_of 2 1 (progress 0 0) 2 ≡ NoStage
+pub rule_no_stage : rule_of 2 1 (progress 0 0) 2 ≡ Err NoStage
 unfolding rule_of
 rule_no_stage = refl
 
-pub rule_at_end : rule_of 2 1 (progress 1 1) 0 ≡ AtEnd
+pub rule_at_end : rule_of 2 1 (progress 1 1) 0 ≡ Err AtEnd
 unfolding rule_of
 rule_at_end = refl
 
-pub rule_level : rule_of 2 1 (progress 0 0) 1 ≡ Level
+pub rule_level : rule_of 2 1 (progress 0 0) 1 ≡ Err Level
 unfolding rule_of
 rule_level = refl
 
-pub rule_unbroken : rule_of 2 1 (progress 1 0) 1 ≡ Unbroken
+pub rule_unbroken : rule_of 2 1 (progress 1 0) 1 ≡ unbroken
 unfolding rule_of
 rule_unbroken = refl
 
-pub rule_no_stage_first : rule_of 2 0 (progress 0 0) 2 ≡ NoStage
+pub rule_no_stage_first : rule_of 2 0 (progress 0 0) 2 ≡ Err NoStage
 unfolding rule_of
 rule_no_stage_first = refl
 
-pub rule_at_end_first : rule_of 2 1 (progress 1 1) 1 ≡ AtEnd
+pub rule_at_end_first : rule_of 2 1 (progress 1 1) 1 ≡ Err AtEnd
 unfolding rule_of
 rule_at_end_first = refl

@@ -1,12 +1,14 @@
 -- Laws of the first number at which something is so, and of a loop that looks for it, number after number. Assumes nothing.
 use mathlib.Core.Path.{◌≡◌, refl, sym, ◌∙◌}
 use mathlib.Core.Bool.{Bool, true, false, cond, false≢true}
+use Rattle.std.proofs.lemmas.Option.{none-some, cond_some}
+use Rattle.std.specs.Prelude.{Some, None}
 use Prim.Native.Nat.{ℕ, zero, suc, ◌+◌, ◌≤◌, ◌<◌}
 use native.Mathlib.Omega.{arith}
 use native.Mathlib.Decide.{ℕ_discrete, dec_lt}
 use borrow.Author.Count.{below_more}
 use borrow.Author.Tests.{ltb-true, ltb-false, lt-ltb, le-ltb}
-use Rattle.theory_tables.specs.First.{first_from, first_of, some}
+use Rattle.theory_tables.specs.First.{first_from, first_of, some, found_of}
 
 module _ (t : ℕ → Bool) where
   -- ---- from any number on
@@ -108,3 +110,23 @@ module _ {t : ℕ → Bool} {n k : ℕ} (l : Looked t n k) where
 
   pub look_over : n ≤ k → k ≡ first_of t n
   look_over h = let e : k ≡ n = omega (arith, l.within) in e ∙ sym (first_none t n (λ j g. l.clear j (omega arith)))
+
+-- ---- what a search answers: the first number, if there is one
+module _ (t : ℕ → Bool) (n : ℕ) where
+  pub found_some : {k : ℕ} → Some k ≡ found_of t n → (some t n ≡ true) × (first_of t n ≡ k)
+  found_some {k} e = cond_some (some t n) (first_of t n) k (sym e)
+
+  pub found_none : None ≡ found_of t n → some t n ≡ false
+  found_none e = go (some t n) e
+    where
+      go : (b : Bool) → None ≡ cond b (Some (first_of t n)) None → b ≡ false
+      go true h = absurd (none-some (first_of t n) h)
+      go false h = refl
+
+-- of a loop over k
+module _ {t : ℕ → Bool} {n k : ℕ} (l : Looked t n k) where
+  pub look_some : k < n → t k ≡ true → Some k ≡ found_of t n
+  look_some h q = let e = look_found l h q in rw (some_hit t n k h q, ← e) refl
+
+  pub look_none : n ≤ k → None ≡ found_of t n
+  look_none h = rw (some_none t n (λ j g. l.clear j (omega (arith, l.within)))) refl

@@ -1,45 +1,34 @@
 -- A block of bytes in and out again is itself. Assumes nothing.
 use mathlib.Core.Path.{◌≡◌, refl, sym, ap, ◌∙◌, subst}
-use mathlib.Core.Bool.{Bool, true, false, cond}
 use mathlib.Core.Logic.{inl, inr}
 use mathlib.Core.List.{List, [], ◌∷◌, ◌++◌, append_assoc}
-use Prim.Native.Nat.{ℕ, zero, suc, ◌+◌, ◌-◌, ◌*◌, ◌/◌, ◌%◌, ◌≤◌, ◌<◌}
+use Prim.Native.Nat.{ℕ, zero, suc, ◌+◌, ◌*◌, ◌/◌, ◌%◌, ◌≤◌, ◌<◌}
 use native.Mathlib.Nat.{eq-or-lt_of_le, le_of_suc-le-suc, le_of_lt}
 use native.Mathlib.Omega.{arith}
 use native.Mathlib.Numerals.{add-one}
-use lib.Dec.{ltb}
 use lib.ListN.{length, get_or, take, get_or-append}
 use lib.Seq.{get_or_at, take-suc}
-use lib.IntN.{pos, negsuc}
 use lib.Ieee.{nan}
 use Rattle.wav_bytes.specs.Bytes.{two_at}
 use Rattle.wav_samples.specs.Sample.{sample_out}
-use Rattle.wav_samples.specs.Pcm.{signed_of, code_of}
+use Rattle.std.specs.Int.{w16, cast_signed, cast_unsigned}
+use Rattle.std.proofs.lemmas.Int.{of_z-to_z}
 use Rattle.wav_samples.specs.Frames.{sample_at, samples_of, low_of, high_of, bytes_of}
 use Rattle.wav_samples.proofs.Blocks.{samples_length, next_pair}
 use Rattle.wav_samples.proofs.Signed as sg
 use Rattle.theory_wav.proofs.Exact.{there_and_back}
-
--- a sample's two bytes
-code_back : (c : ℕ) → c < 65536 → code_of (signed_of c) ≡ c
-unfolding code_of signed_of
-code_back c h = go (ltb c 32768)
-  where
-    go : (b : Bool) → code_of (cond b (pos c) (negsuc (65535 - c))) ≡ c
-    go true = refl
-    go false = omega arith
 
 two_small : (bytes : List ℕ) → ((i : ℕ) → get_or bytes i 0 < 256) → (i : ℕ) → two_at bytes i < 65536
 unfolding two_at
 two_small bytes small i = omega (arith, small i, small (i + 1))
 
 module _ (bytes : List ℕ) (small : (i : ℕ) → get_or bytes i 0 < 256) where
-  code_there : (i : ℕ) → code_of (sample_out (sample_at bytes i)) ≡ two_at bytes (2 * i)
+  code_there : (i : ℕ) → cast_unsigned w16 (sample_out (sample_at bytes i)) ≡ two_at bytes (2 * i)
   unfolding sample_at
   code_there i =
       let c = two_at bytes (2 * i) in
       let l : c < 65536 = two_small bytes small (2 * i) in
-      ap code_of (there_and_back (signed_of c) (sg.signed_small c l)) ∙ code_back c l
+      ap (cast_unsigned w16) (there_and_back (cast_signed w16 c) (sg.signed_small c l)) ∙ of_z-to_z w16 c l
 
   bytes_at : (i : ℕ) → (low_of (sample_at bytes i) ≡ get_or bytes (2 * i) 0) × (high_of (sample_at bytes i) ≡ get_or bytes (2 * i + 1) 0)
   unfolding low_of high_of two_at

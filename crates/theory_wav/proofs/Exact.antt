@@ -1,7 +1,7 @@
 -- A sample in is s / 32768 exactly, and comes out again as it went in. Assumes nothing.
 use mathlib.Core.Path.{◌≡◌, sym, ap, ◌∙◌}
 use mathlib.Core.Bool.{Bool, true, false}
-use Prim.Native.Nat.{ℕ, suc, ◌-◌, ◌*◌, ◌/◌, ◌^◌, ◌≤◌, compare, min}
+use Prim.Native.Nat.{ℕ, suc, ◌*◌, ◌/◌, ◌^◌, ◌≤◌, compare, min}
 use native.Mathlib.Nat.{lt_of_le_of_lt, mul-one, mul_assoc, mul-le-mul_right, min-eq_left, div-one, mod-one}
 use native.Mathlib.Omega.{arith}
 use lib.Dec.{lit<}
@@ -11,7 +11,6 @@ use lib.Ieee.Exact.{HasValue, round_exact}
 use lib.Ieee.Nearest.{closest, closest_same}
 use Rattle.wav_samples.specs.Sample.{sample_in, steps_of, held_of, sample_out}
 use Rattle.wav_samples.proofs.Steps.{value_steps, value_sign}
-use Rattle.wav_samples.proofs.Signed as sg
 use Rattle.theory_wav.specs.Evidence.{InExact, ThereAndBack}
 
 exact : (s : Bool) (n : ℕ) → n ≤ 32768 → HasValue (round binary32 s n 32768) s n 32768
@@ -36,8 +35,6 @@ comes_back v s n h x =
     ∙ ap (held_of s) (value_steps s n 32768 (lit< tt) v x ∙ whole_steps n h)
 
 pub there_and_back : ThereAndBack
-there_and_back (pos n) h = comes_back (sample_in (pos n)) false n (omega arith) (in_exact (pos n) h) ∙ sym (sg.above_is n h)
-there_and_back (negsuc n) h = comes_back (sample_in (negsuc n)) true (suc n) (omega arith) (in_exact (negsuc n) h) ∙ sym (sg.below_is (suc n) (λ e. omega arith)) ∙ ap negsuc (less n)
-  where
-    less : (n : ℕ) → suc n - 1 ≡ n
-    less n = omega arith
+unfolding held_of
+there_and_back (pos n) h = comes_back (sample_in (pos n)) false n (omega arith) (in_exact (pos n) h) ∙ ap pos (omega arith)
+there_and_back (negsuc n) h = comes_back (sample_in (negsuc n)) true (suc n) (omega arith) (in_exact (negsuc n) h)

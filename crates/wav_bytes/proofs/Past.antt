@@ -1,16 +1,13 @@
--- From a place past the end on, every number is 0. Assumes nothing.
-use mathlib.Core.Path.{◌≡◌}
-use mathlib.Core.List.{List}
-use Prim.Native.Nat.{ℕ, ◌+◌, ◌≤◌}
-use native.Mathlib.Omega.{arith}
-use lib.ListN.{length, get_or-eq_default}
-use Rattle.wav_bytes.specs.Bytes.{two_at, four_at}
+-- Past the end every byte is 0, so a place may be held to any at or past the end. Assumes nothing.
+use Rattle.std.proofs.Common.{◌≡◌, ℕ, ◌≤◌, List, length, get_or, ap, ◌∙◌, sym, arith}
+use Rattle.std.proofs.lemmas.Bool.{cases_lt}
+use mathlib.Core.Logic.{inl, inr}
+use Prim.Native.Nat.{min}
+use lib.ListN.{get_or-eq_default}
 
-module _ (bytes : List ℕ) (at : ℕ) (past : length bytes ≤ at) where
-  pub two_past : two_at bytes at ≡ 0
-  unfolding two_at
-  two_past = omega (arith, get_or-eq_default bytes 0 {n = at} past, get_or-eq_default bytes 0 {n = at + 1} (omega arith))
-
-pub four_past : (bytes : List ℕ) (at : ℕ) → length bytes ≤ at → four_at bytes at ≡ 0
-unfolding four_at
-four_past bytes at past = omega (arith, two_past bytes at past, two_past bytes (at + 2) (omega arith))
+pub held_past : (bytes : List ℕ) (i m : ℕ) → length bytes ≤ m → get_or bytes (min i m) 0 ≡ get_or bytes i 0
+held_past bytes i m h =
+    elim (cases_lt i m) [
+      | inl l ↦ ap (λ (n : ℕ). get_or bytes n 0) (omega arith)
+      | inr l ↦ get_or-eq_default bytes 0 (omega arith) ∙ sym (get_or-eq_default bytes 0 (omega arith))
+    ]

@@ -1,7 +1,7 @@
 -- Each public function's promise admits one outcome. Assumes nothing.
 use mathlib.Core.Path.{sym, ◌∙◌}
 use Rattle.float.proofs.Outcome.{Single}
-use Rattle.wav_header.proofs.number as number
+use Rattle.wav_header.proofs.HeaderRefusal.number as number
 use Rattle.wav_header.proofs.read as read
 
 pub number_single : Single number.Reads.Post

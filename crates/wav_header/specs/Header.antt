@@ -1,20 +1,25 @@
 -- The header of a WAV file and document 01's answers to it, as a table: the first row that applies gives the answer.
 -- Definitions only.
-use Rattle.std.specs.Prelude.{ℕ, ◌+◌, ◌*◌, ◌%◌, List, [], ◌∷◌, length}
+use Rattle.std.specs.Prelude.{ℕ, ◌+◌, ◌*◌, ◌%◌, List, [], ◌∷◌, length, Result, Ok, Err}
 use Rattle.theory_tables.specs.Condition.{Condition, less, differ, ◌or◌}
 use Rattle.theory_tables.specs.Rows.{Row, row, given, first_row, ByTheTable}
 use Rattle.wav_header.specs.declared.Header.{Header}
-use Rattle.wav_header.specs.declared.Header.TheVariants.{Read, Names, Format, Rate, Size, Short}
+use Rattle.wav_header.specs.declared.HeaderRefusal.{HeaderRefusal}
+use Rattle.wav_header.specs.declared.HeaderRefusal.TheVariants.{Names, Format, Rate, Size, Short}
 use Rattle.wav_bytes.specs.Bytes.{two_at, four_at}
 
+-- document 01's number of a refusal
+abbrev pub refusal_number : HeaderRefusal → ℕ
+refusal_number Names = 21
+refusal_number Format = 22
+refusal_number Rate = 23
+refusal_number Size = 24
+refusal_number Short = 25
+
 -- document 01's number of an answer; 0 for a header that is read
-abbrev pub header_number : Header → ℕ
-header_number (Read rate size) = 0
-header_number Names = 21
-header_number Format = 22
-header_number Rate = 23
-header_number Size = 24
-header_number Short = 25
+abbrev pub header_number : Result Header HeaderRefusal → ℕ
+header_number (Ok header) = 0
+header_number (Err refusal) = refusal_number refusal
 
 -- ---- the layout
 
@@ -90,21 +95,21 @@ size_wrong bytes = differ (four_at bytes plain.size % 4) 0
 -- ---- the table
 
 -- document 01's refusals, "tested in that order", with 25 before 21; a header has no places, so every place is 0
-abbrev pub header_rows : List ℕ → ℕ → List (Row Header)
+abbrev pub header_rows : List ℕ → ℕ → List (Row (Result Header HeaderRefusal))
 header_rows bytes highest =
-    row 25 (given 0 (less (length bytes) plain.length)) (λ p. Short)
-    ∷ row 21 (given 0 (names_wrong bytes)) (λ p. Names)
-    ∷ row 22 (given 0 (format_wrong bytes)) (λ p. Format)
-    ∷ row 23 (given 0 (rate_wrong (four_at bytes plain.rate) highest)) (λ p. Rate)
-    ∷ row 24 (given 0 (size_wrong bytes)) (λ p. Size)
+    row 25 (given 0 (less (length bytes) plain.length)) (λ p. Err Short)
+    ∷ row 21 (given 0 (names_wrong bytes)) (λ p. Err Names)
+    ∷ row 22 (given 0 (format_wrong bytes)) (λ p. Err Format)
+    ∷ row 23 (given 0 (rate_wrong (four_at bytes plain.rate) highest)) (λ p. Err Rate)
+    ∷ row 24 (given 0 (size_wrong bytes)) (λ p. Err Size)
     ∷ []
 
 -- the answer where no row applies: the header's rate and data size
-abbrev pub read_of : List ℕ → Header
-read_of bytes = Read (four_at bytes plain.rate) (four_at bytes plain.size)
+abbrev pub read_of : List ℕ → Result Header HeaderRefusal
+read_of bytes = Ok (record { rate = four_at bytes plain.rate; size = four_at bytes plain.size })
 
 -- the answer to a header, for a program that takes rates up to `highest`
-unfoldable pub header_of : List ℕ → ℕ → Header
+unfoldable pub header_of : List ℕ → ℕ → Result Header HeaderRefusal
 header_of bytes highest = first_row (header_rows bytes highest) (read_of bytes)
 
 -- `header_of` in plain logic: it gives the first row that applies and no other, and `read_of` exactly where none

@@ -2,13 +2,15 @@
 // `requires`: any bytes may be passed in.
 #![tactic(auto)]
 
-ghost use Rattle.std.specs.Prelude.{◌≡◌};
+ghost use Rattle.std.specs.Prelude.{◌≡◌, Ok, Err, if◌then◌else◌};
 ghost use Rattle.theory_tables.specs.Condition.{decide};
-ghost use Rattle.wav_header.specs.Header.{header_number, names_wrong, format_wrong, rate_wrong, header_of};
+ghost use Rattle.wav_header.specs.declared.HeaderRefusal.TheVariants.{Names, Format, Rate, Size};
+ghost use Rattle.wav_header.specs.Header.{plain, refusal_number, names_wrong, format_wrong, rate_wrong, size_wrong, header_of};
+ghost use Rattle.wav_bytes.specs.Bytes.{four_at};
 
 use wav_bytes::{four_at, two_at};
 
-// Chunk names, read as numbers with the low byte first.
+// Chunk names, read as numbers with the low byte first. (A constant's value cannot call `from_le_bytes`.)
 const RIFF: u32 = 0x4646_4952;
 
 const WAVE: u32 = 0x4556_4157;
@@ -17,11 +19,16 @@ const FMT: u32 = 0x2074_6d66;
 
 const DATA: u32 = 0x6174_6164;
 
-// The answer to a header: what it says, or one of document 01's refusals.
-#[derive(Clone, Copy)]
-pub enum Header {
-    // The rate, and the bytes of data to come.
-    Read { rate: u32, size: u32 },
+// What a header says: the rate, and the bytes of data to come.
+#[derive(Clone, Copy, Debug, PartialEq, Eq)]
+pub struct Header {
+    pub rate: u32,
+    pub size: u32,
+}
+
+// Document 01's refusals of a header.
+#[derive(Clone, Copy, Debug, PartialEq, Eq)]
+pub enum HeaderRefusal {
     // 21: wrong chunk names, fmt size not 16, or RIFF size not data size + 36
     Names,
     // 22: not tag 1, two channels, 16 bits, block 4, byte rate 4R
@@ -34,68 +41,83 @@ pub enum Header {
     Short,
 }
 
-// Document 01's number of a refusal; 0 for a header that is read.
-pub fn number(header: Header) -> u32
-    ensures { result ≡ header_number header }
-{
-    match header {
-        Header::Read { rate: _, size: _ } => 0,
-        Header::Names => 21,
-        Header::Format => 22,
-        Header::Rate => 23,
-        Header::Size => 24,
-        Header::Short => 25,
+impl HeaderRefusal {
+    // Document 01's number.
+    pub fn number(self) -> u32
+        ensures { result ≡ refusal_number self }
+    {
+        match self {
+            HeaderRefusal::Names => 21,
+            HeaderRefusal::Format => 22,
+            HeaderRefusal::Rate => 23,
+            HeaderRefusal::Size => 24,
+            HeaderRefusal::Short => 25,
+        }
     }
 }
 
-fn names_wrong(bytes: &[u8]) -> bool
-    ensures { result ≡ decide (names_wrong bytes.now) }
+fn check_names(bytes: &[u8]) -> Result<(), HeaderRefusal>
+    ensures { result ≡ (if decide (names_wrong bytes.now) then Err Names else Ok tt) }
 {
-    (four_at(bytes, 0) != RIFF)
-        | (four_at(bytes, 8) != WAVE)
-        | (four_at(bytes, 12) != FMT)
-        | (four_at(bytes, 36) != DATA)
-        | (four_at(bytes, 16) != 16)
-        | (four_at(bytes, 4) as u64 != four_at(bytes, 40) as u64 + 36)
+    if four_at(bytes, 0) != RIFF
+        || four_at(bytes, 8) != WAVE
+        || four_at(bytes, 12) != FMT
+        || four_at(bytes, 36) != DATA
+        || four_at(bytes, 16) != 16
+        || u64::from(four_at(bytes, 4)) != u64::from(four_at(bytes, 40)) + 36
+    {
+        return Err(HeaderRefusal::Names);
+    }
+    Ok(())
 }
 
-fn format_wrong(bytes: &[u8]) -> bool
-    ensures { result ≡ decide (format_wrong bytes.now) }
+fn check_format(bytes: &[u8]) -> Result<(), HeaderRefusal>
+    ensures { result ≡ (if decide (format_wrong bytes.now) then Err Format else Ok tt) }
 {
-    (two_at(bytes, 20) != 1)
-        | (two_at(bytes, 22) != 2)
-        | (two_at(bytes, 34) != 16)
-        | (two_at(bytes, 32) != 4)
-        | (four_at(bytes, 28) as u64 != 4 * (four_at(bytes, 24) as u64))
+    if two_at(bytes, 20) != 1
+        || two_at(bytes, 22) != 2
+        || two_at(bytes, 34) != 16
+        || two_at(bytes, 32) != 4
+        || u64::from(four_at(bytes, 28)) != 4 * u64::from(four_at(bytes, 24))
+    {
+        return Err(HeaderRefusal::Format);
+    }
+    Ok(())
 }
 
-fn rate_wrong(rate: u32, highest: u32) -> bool
-    ensures { result ≡ decide (rate_wrong rate highest) }
+fn rate_in(bytes: &[u8], highest: u32) -> Result<u32, HeaderRefusal>
+    ensures { result ≡ (if decide (rate_wrong (four_at bytes.now plain.rate) highest) then Err Rate
+        else Ok (four_at bytes.now plain.rate)) }
 {
-    (rate < 8000) | (rate > 192000) | (rate > highest)
+    let rate = four_at(bytes, 24);
+    if rate < 8000 || rate > 192000 || rate > highest {
+        return Err(HeaderRefusal::Rate);
+    }
+    Ok(rate)
+}
+
+fn size_in(bytes: &[u8]) -> Result<u32, HeaderRefusal>
+    ensures { result ≡ (if decide (size_wrong bytes.now) then Err Size else Ok (four_at bytes.now plain.size)) }
+{
+    let size = four_at(bytes, 40);
+    if size % 4 != 0 {
+        return Err(HeaderRefusal::Size);
+    }
+    Ok(size)
 }
 
 // Reads the header in the first 44 bytes, for a program that takes rates up to `highest`. Of the refusals
 // that apply it gives the first in the order 25, 21, 22, 23, 24.
-pub fn read(bytes: &[u8], highest: u32) -> Header
+#[tactic(auto, unfolding(crate::specs::Header::header_of, theory_tables::specs::Rows::first_row))]
+pub fn read(bytes: &[u8], highest: u32) -> Result<Header, HeaderRefusal>
     ensures { result ≡ header_of bytes.now highest }
 {
     if bytes.len() < 44 {
-        return Header::Short;
+        return Err(HeaderRefusal::Short);
     }
-    if names_wrong(bytes) {
-        return Header::Names;
-    }
-    if format_wrong(bytes) {
-        return Header::Format;
-    }
-    let rate = four_at(bytes, 24);
-    if rate_wrong(rate, highest) {
-        return Header::Rate;
-    }
-    let size = four_at(bytes, 40);
-    if size % 4 != 0 {
-        return Header::Size;
-    }
-    Header::Read { rate, size }
+    check_names(bytes)?;
+    check_format(bytes)?;
+    let rate = rate_in(bytes, highest)?;
+    let size = size_in(bytes)?;
+    Ok(Header { rate, size })
 }

@@ -4,7 +4,7 @@ use Rattle.std.specs.Prelude.{ℕ, zero, suc, ◌*◌, ◌/◌, ◌%◌, min, Li
 use Rattle.std.specs.Float.{nan}
 use Rattle.wav_samples.specs.Sample.{sample_in, sample_out}
 use Rattle.wav_bytes.specs.Bytes.{two_at}
-use Rattle.wav_samples.specs.Pcm.{signed_of, code_of}
+use Rattle.std.specs.Int.{w16, cast_signed, cast_unsigned}
 
 -- how many whole frames these bytes and these samples both have room for
 unfoldable pub whole_frames : List ℕ → List Float → ℕ
@@ -12,8 +12,8 @@ whole_frames bytes samples = min (length bytes / 4) (length samples / 2)
 
 -- sample i of the bytes, as a float
 unfoldable pub sample_at : List ℕ → ℕ → Float
-unfolding sample_in signed_of two_at
-sample_at bytes i = sample_in (signed_of (two_at bytes (2 * i)))
+unfolding sample_in two_at
+sample_at bytes i = sample_in (cast_signed w16 (two_at bytes (2 * i)))
 
 -- the first n samples of the bytes, as floats
 unfoldable pub samples_of : List ℕ → ℕ → List Float
@@ -23,13 +23,13 @@ samples_of bytes (suc n) = samples_of bytes n ++ (sample_at bytes n ∷ [])
 
 -- the low byte of the sample that goes out for x
 unfoldable pub low_of : Float → ℕ
-unfolding sample_out code_of
-low_of x = code_of (sample_out x) % 256
+unfolding sample_out
+low_of x = cast_unsigned w16 (sample_out x) % 256
 
 -- the high byte of the sample that goes out for x
 unfoldable pub high_of : Float → ℕ
-unfolding sample_out code_of
-high_of x = code_of (sample_out x) / 256
+unfolding sample_out
+high_of x = cast_unsigned w16 (sample_out x) / 256
 
 -- the bytes of the first n samples, the low byte of each first
 unfoldable pub bytes_of : List Float → ℕ → List ℕ

@@ -3,5 +3,4 @@
 #![tactic(auto)]
 
 pub mod frames;
-mod pcm;
 pub mod sample;

@@ -4,214 +4,147 @@
 // input. After a failed write nothing more is written, and no message either.
 #![tactic(auto)]
 
-ghost use Rattle.std.specs.Prelude.{true, ◌≡◌, ◌≤◌, ◌<◌, length};
+ghost use Rattle.std.specs.Prelude.{◌≤◌, length};
 
-use answer::{is_accepted, number};
+use answer::Refusal;
 use chain::render::render;
-use chain::run::Outcome;
 use fresh_start::start::start;
 use memories::{Memories, PLACES};
 use stage::setup::Setup;
+use std::io;
 use std::io::Read;
-use wav_header::Header;
+use wav_header::{Header, HeaderRefusal};
 use wav_samples::frames::{frames_in, frames_out};
 
-// What there is after a block: the memories, how many bytes of data are left, and whether to go on.
+// The bytes of a block, which is 4,096 frames at most, and its samples.
+const BLOCK_BYTES: usize = 16384;
+
+const BLOCK_SAMPLES: usize = 8192;
+
+// Why a file does not go through to its end: it is refused, by its header or by the chain, or a write
+// failed.
 #[derive(Clone, Copy)]
-struct Turn {
-    memories: Memories,
-    remaining: usize,
-    more: bool,
+enum Stop {
+    Header(HeaderRefusal),
+    Chain(Refusal),
+    Write,
 }
 
-// A number that cannot be written is left unsaid.
-fn say(rt: &impl Eprint, number: u32) {
-    let _ = eprintln!(rt; "{number}");
+impl From<HeaderRefusal> for Stop {
+    fn from(refusal: HeaderRefusal) -> Stop {
+        Stop::Header(refusal)
+    }
 }
 
-// How many of the bytes that are left the next block takes: 4,096 frames at most.
-fn block_bytes(remaining: usize) -> usize
-    ensures { (result ≤ remaining) × (result ≤ 16384) × (0 < remaining → 0 < result) }
-{
-    if remaining < 16384 { remaining } else { 16384 }
+impl From<Refusal> for Stop {
+    fn from(refusal: Refusal) -> Stop {
+        Stop::Chain(refusal)
+    }
 }
 
-// Reads until the bytes are full, the input ends or a read fails, and returns how many bytes came.
+impl From<io::Error> for Stop {
+    fn from(_error: io::Error) -> Stop {
+        Stop::Write
+    }
+}
+
+impl Stop {
+    // The number to write, if any.
+    fn number(self) -> Option<u32> {
+        match self {
+            Stop::Header(refusal) => Some(refusal.number()),
+            Stop::Chain(refusal) => Some(refusal.number()),
+            Stop::Write => None,
+        }
+    }
+}
+
+// Reads until the bytes are full, the input ends or a read fails, and returns how many bytes came, which
+// `read_exact` would not say.
 fn read_full(rt: &impl Input, bytes: &mut [u8]) -> usize
     ensures { result ≤ length bytes.old }
 {
     let mut input = rt.reader();
     let mut done = 0;
     while done < bytes.len() {
-        let n = input.read(&mut bytes[done..]).unwrap_or(0);
-        if n == 0 {
-            break;
+        match input.read(&mut bytes[done..]) {
+            Ok(0) | Err(_) => break,
+            Ok(n) => done += n,
         }
-        done += n;
     }
     done
 }
 
-// Reads `want` bytes, or as many as there are, and returns how many.
-fn read_block(rt: &impl Input, bytes: &mut [u8], want: usize) -> usize
-    requires { want ≤ length bytes.old }
-    ensures { result ≤ want }
-{
-    read_full(rt, &mut bytes[..want])
-}
-
-fn render_block(
-    setup: Setup,
-    memories: Memories,
-    samples: &mut [f32],
-    frames: usize,
-    store: &mut [f32],
-) -> Outcome
-    requires few_frames { frames ≤ 4096 }
-    requires room { length samples.old ≡ 8192 }
-{
-    let n = 2 * frames;
-    render(setup, &mut samples[..n], memories, store, [0; PLACES])
-}
-
-// Writes these frames, or the number of the refusal, and returns whether to go on. After the frames of a
-// block that was cut short it writes number 25.
-fn write_block(
-    rt: &(impl Print + Eprint),
-    refused: u32,
-    samples: &[f32],
-    bytes: &mut [u8],
-    frames: usize,
-    is_cut: bool,
-) -> bool
-    requires few_frames { frames ≤ 4096 }
-    requires room { length bytes.old ≡ 16384 }
-{
-    if refused > 0 {
-        say(rt, refused);
-        return false;
-    }
-    frames_out(samples, bytes);
-    let n = 4 * frames;
-    if rt.write_all(&bytes[..n]).is_err() {
-        return false;
-    }
-    if is_cut {
-        say(rt, wav_header::number(Header::Short));
-        return false;
-    }
-    true
-}
-
-// Reads, renders and writes one block of frames. It is the last if it is refused (which no sample from a
-// file can bring about), cannot be written or is cut short.
+// Reads, renders and writes one block of as many frames as the bytes have room for, and returns the
+// memories after it. Where the input ends before, what came of the block is written first.
+#[tactic(auto, unfolding(wav_samples::specs::Frames::whole_frames))]
 fn block(
     rt: &(impl Input + Print + Eprint),
     setup: Setup,
     memories: Memories,
-    remaining: usize,
     bytes: &mut [u8],
-    samples: &mut [f32],
+    samples: &mut [f32; BLOCK_SAMPLES],
     store: &mut [f32],
-) -> Turn
-    requires some_left { 0 < remaining }
-    requires room { (length bytes.old ≡ 16384) × (length samples.old ≡ 8192) }
-    ensures { result.more ≡ true → result.remaining < remaining }
-{
-    let want = block_bytes(remaining);
-    let got = read_block(rt, bytes, want);
+) -> Result<Memories, Stop> {
+    let got = read_full(rt, bytes);
     let frames = frames_in(&bytes[..got], samples);
-    let outcome = render_block(setup, memories, samples, frames, store);
-    let answer = outcome.answer;
-    let kept = outcome.memories;
-    let more = write_block(rt, number(answer), samples, bytes, frames, got < want);
-    let rest = remaining - want;
-    Turn {
-        memories: kept,
-        remaining: rest,
-        more,
+    let outcome = render(
+        setup,
+        &mut samples[..2 * frames],
+        memories,
+        store,
+        [0; PLACES],
+    )?;
+    frames_out(samples, bytes);
+    rt.write_all(&bytes[..4 * frames])?;
+    if got < bytes.len() {
+        return Err(Stop::Header(HeaderRefusal::Short));
     }
+    Ok(outcome.memories)
 }
 
-// Runs blocks until all `size` bytes of data are through, or one was the last.
+// Runs blocks until all `size` bytes of data are through.
 fn blocks(
     rt: &(impl Input + Print + Eprint),
     setup: Setup,
     memories: Memories,
     size: usize,
-    bytes: &mut [u8],
-    samples: &mut [f32],
     store: &mut [f32],
-)
-    requires { (length bytes.old ≡ 16384) × (length samples.old ≡ 8192) }
-{
+) -> Result<(), Stop> {
+    let mut bytes = [0; BLOCK_BYTES];
+    let mut samples = [0.0; BLOCK_SAMPLES];
     let mut held = memories;
-    let mut remaining = size;
-    while remaining > 0 {
-        let done = block(rt, setup, held, remaining, bytes, samples, store);
-        if !done.more {
-            return;
-        }
-        let next = done.memories;
-        held = next;
-        remaining = done.remaining;
+    for done in (0..size).step_by(BLOCK_BYTES) {
+        let want = BLOCK_BYTES.min(size - done);
+        held = block(rt, setup, held, &mut bytes[..want], &mut samples, store)?;
     }
+    Ok(())
 }
 
-// After the header has been read: clears the lines, writes the header as it came, and runs the blocks.
-fn render_file(
+// Reads the header, clears the lines, writes the header as it came, and runs the blocks.
+fn pass(
     rt: &(impl Input + Print + Eprint),
-    head: &[u8],
-    size: u32,
     setup: Setup,
+    highest: u32,
     store: &mut [f32],
-) {
+) -> Result<(), Stop> {
+    let mut head = [0; 44];
+    let n = read_full(rt, &mut head);
+    let Header { rate, size } = wav_header::read(&head[..n], highest)?;
+    let setup = Setup { rate, ..setup };
     let started = start(setup, store);
-    let answer = started.answer;
-    if !is_accepted(answer) {
-        say(rt, number(answer));
-        return;
-    }
-    if rt.write_all(head).is_err() {
-        return;
-    }
-    let memories = started.memories;
-    let mut bytes = [0; 16384];
-    let mut samples = [0.0; 8192];
-    blocks(
-        rt,
-        setup,
-        memories,
-        size as usize,
-        &mut bytes,
-        &mut samples,
-        store,
-    );
-}
-
-// The same chain at another rate.
-fn at_rate(setup: Setup, rate: u32) -> Setup {
-    let slots = setup.slots;
-    Setup {
-        rate,
-        count: setup.count,
-        slots,
-    }
+    started.answer?;
+    rt.write_all(&head)?;
+    blocks(rt, setup, started.memories, size as usize, store)
 }
 
 // Takes a whole WAV file from standard input to standard output through this chain, at the file's rate
 // instead of the setup's. The program takes rates up to `highest`. Of a file that is refused, or cut inside
 // its header, nothing is written but the number, on the error output.
 pub fn stream(rt: &(impl Input + Print + Eprint), setup: Setup, highest: u32, store: &mut [f32]) {
-    let mut head = [0; 44];
-    let n = read_full(rt, &mut head);
-    let header = wav_header::read(&head[..n], highest);
-    match header {
-        Header::Read { rate, size } => render_file(rt, &head, size, at_rate(setup, rate), store),
-        Header::Names => say(rt, wav_header::number(header)),
-        Header::Format => say(rt, wav_header::number(header)),
-        Header::Rate => say(rt, wav_header::number(header)),
-        Header::Size => say(rt, wav_header::number(header)),
-        Header::Short => say(rt, wav_header::number(header)),
+    let stop = pass(rt, setup, highest, store).err();
+    if let Some(number) = stop.and_then(Stop::number) {
+        // A number that cannot be written is left unsaid.
+        let _ = eprintln!(rt; "{number}");
     }
 }

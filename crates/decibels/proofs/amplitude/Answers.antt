@@ -19,4 +19,4 @@ returns-then-db-gt24 c = nan_is binary32 ∙ sym (too_high binary32 amplitudes 5
 
 pub returns : goal.returns
 unfolding amplitudes
-returns c = c.from_bits_f32.ensures ∙ place_entry (inside (goal.at.returns c).Else-db-gt24) binary32 amplitudes (literal binary32 0 1) ∙ amplitude_entry c.args.db
+returns c = c.from_bits.ensures ∙ place_entry (inside (goal.at.returns c).Else-db-gt24) binary32 amplitudes (literal binary32 0 1) ∙ amplitude_entry c.args.db

@@ -17,4 +17,4 @@ returns-then-gain-gt24 c = nan_is binary64 ∙ sym (too_high binary64 eq_amplitu
 
 pub returns : goal.returns
 unfolding eq_amplitudes
-returns c = c.from_bits_f64.ensures ∙ place_entry (inside (goal.at.returns c).Else-gain-gt24) binary64 eq_amplitudes nan ∙ eq_amplitude_entry c.args.gain
+returns c = c.from_bits.ensures ∙ place_entry (inside (goal.at.returns c).Else-gain-gt24) binary64 eq_amplitudes nan ∙ eq_amplitude_entry c.args.gain

@@ -2,16 +2,17 @@
 use Rattle.std.proofs.Common.{ℕ, ◌<◌, List, refl, arith, get_or}
 use lib.ListN.{drop}
 use borrow.Author.Tests.{le-leb, lt-leb}
+use Rattle.theory_tables.specs.Condition.{Holds}
 use Rattle.theory_tables.proofs.Decided.{is, is_not}
 use Rattle.theory_tables.proofs.Tested.{Gives, row_hit, row_pass, row_none}
-use Rattle.order_entries.specs.declared.Rule.TheVariants.{Unbroken}
-use Rattle.order_entries.specs.Entries.{level_with_before, entry_rows, rule_of}
+use Rattle.order_entries.specs.Entries.{level_with_before, unbroken, entry_rows, rule_of}
 use Rattle.order_entries.proofs.may_run.Goals as goal
+use Rattle.order_entries.proofs.may_run.Goals.{else-k-gt0-via-then-k-gt0+else-number_at-done, else-k-gt0-via-else-k-gt0}
 
 module _ (tops frames : ℕ) (progress : List ℕ) (k : ℕ) where
   -- past the first n rules
   abbrev Past : ℕ → Type 0
-  Past n = Gives (drop n (entry_rows tops frames progress k)) Unbroken (rule_of tops frames progress k)
+  Past n = Gives (drop n (entry_rows tops frames progress k)) unbroken (rule_of tops frames progress k)
 
   past_none : Past 0
   unfolding rule_of
@@ -30,22 +31,19 @@ pub returns-then-frames-done : goal.returns-then-frames-done
 returns-then-frames-done c =
     row_hit (past_stage c.args.tops c.args.frames c.args.progress.now c.args.k c.if-tops-k.false) (rw (← c.number_at-done.ensures) (le-leb _ _ c.if-frames-done.true))
 
-pub returns-then-k-eq0 : goal.returns-then-k-eq0
-returns-then-k-eq0 c =
-    row_none
-    (row_pass
-    (past_end c.args.tops c.args.frames c.args.progress.now c.args.k c.if-tops-k.false (rw (← c.number_at-done.ensures) c.if-frames-done.false))
-    (is_not (level_with_before c.args.progress.now c.args.k) (λ h. omega arith)))
-
 pub returns-then-number_at-done : goal.returns-then-number_at-done
 returns-then-number_at-done c =
     row_hit
     (past_end c.args.tops c.args.frames c.args.progress.now c.args.k c.if-tops-k.false (rw (← c.number_at-done.ensures) c.if-frames-done.false))
     (is (level_with_before c.args.progress.now c.args.k) (omega arith))
 
-pub returns : goal.returns
-returns c =
+pub returns-else-k-gt0 : goal.returns-else-k-gt0
+returns-else-k-gt0 c =
+    let not_level : Holds (level_with_before c.args.progress.now c.args.k) → ⊥ = λ h. elim c.else-k-gt0.branch [
+      | else-k-gt0-via-then-k-gt0+else-number_at-done w ↦ omega (arith, w.number_at.ensures, w.if-number_at-done.false, c.number_at-done.ensures, h.1)
+      | else-k-gt0-via-else-k-gt0 w ↦ omega (arith, w.if-k-gt0.false, h.0)
+    ] in
     row_none
     (row_pass
     (past_end c.args.tops c.args.frames c.args.progress.now c.args.k c.if-tops-k.false (rw (← c.number_at-done.ensures) c.if-frames-done.false))
-    (is_not (level_with_before c.args.progress.now c.args.k) (λ h. omega arith)))
+    (is_not (level_with_before c.args.progress.now c.args.k) not_level))

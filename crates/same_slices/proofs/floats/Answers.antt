@@ -1,15 +1,14 @@
--- The loop's invariant: both are of one length, and the places passed are the same. The measure is what is left of them. Assumes nothing.
-use mathlib.Core.Path.{sym, ◌∙◌}
-use native.Mathlib.Omega.{arith}
-use lib.Ieee.{binary32, nan, to_bits}
-use Rattle.same_slices.proofs.Sames.{other_length, differs, agrees}
+-- The pairs that `all` goes through are those of the two lists. Assumes nothing.
+use Rattle.std.proofs.Common.{rules, tests}
+use Rattle.std.proofs.lemmas.Iterator.{YieldsList-from_slice, YieldsList-from_zip, cases_from_all}
+use mathlib.Core.Path.{◌∙◌}
+use borrow.Author.Tests.{ne_eqb}
+use lib.Ieee.{binary32, to_bits}
+use Rattle.same_slices.proofs.Sames.{Same, Other, other_length, decided}
 use Rattle.same_slices.proofs.floats.Goals as goal
 
+pub returns-else-a-b : goal.returns-else-a-b
+returns-else-a-b c = ne_eqb _ _ c.if-a-b.false ∙ other_length (to_bits binary32) _ _ c.if-a-b.false
+
 pub returns-then-a-b : goal.returns-then-a-b
-returns-then-a-b c = other_length (to_bits binary32) c.args.a.now c.args.b.now c.if-a-b.true
-
-pub returns-then-to_bits_f32 : goal.returns-then-to_bits_f32
-returns-then-to_bits_f32 c = differs (to_bits binary32) nan c.args.a.now c.args.b.now c.loop-i.i (omega arith) c.loop-i.invariant.1 (λ e. c.if-to_bits_f32.true (c.to_bits_f32.ensures ∙ e ∙ sym c.to_bits_f32-in-loop-i.ensures))
-
-pub returns : goal.returns
-returns c = agrees (to_bits binary32) nan c.args.a.now c.args.b.now c.loop-i.invariant.1 (λ k h. c.loop-i.invariant.2 k (omega arith))
+returns-then-a-b c = decided (to_bits binary32) _ _ _ c.if-a-b.true (cases_from_all c.all.new.self _ _ (Same (to_bits binary32)) (Other (to_bits binary32)) c.all.ensures.ran (YieldsList-from_zip (YieldsList-from_slice c.args.a.now cc) (YieldsList-from_slice c.args.b.now cc)) (λ x q k. search (rules, tests)) (λ x q k. search (rules, tests)))

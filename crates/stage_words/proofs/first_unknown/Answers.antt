@@ -1,17 +1,29 @@
--- The first stage that is unknown is found, or all are known. Assumes nothing.
-use mathlib.Core.Path.{◌≡◌, ap, sym, ◌∙◌}
-use Prim.Native.Nat.{◌/◌}
-use lib.ListN.{length}
-use mathlib.Core.Bool.{not}
+-- What `find` finds is the first place below the count whose words are no stage. Assumes nothing.
+use mathlib.Core.Path.{◌≡◌, sym, ◌∙◌}
+use mathlib.Core.Bool.{Bool, true, false}
+use Prim.Native.Nat.{ℕ, ◌≤◌, ◌<◌}
 use native.Mathlib.Omega.{arith}
-use Rattle.theory_tables.proofs.Firsts.{look_found, look_over}
-use Rattle.stage_words.specs.Words.{word_count, is_stage}
+use borrow.Author.Tests.{tests}
+use Rattle.std.proofs.Common.{rules}
+use Rattle.std.proofs.lemmas.Iterator.{first_from_Range}
+use Rattle.std.specs.Prelude.{Option, Some, None, MatchOption}
+use Rattle.std.specs.Option.{unwrap_or}
+use Rattle.theory_tables.specs.First.{first_of}
+use Rattle.theory_tables.proofs.Firsts.{first_is, first_none}
+use Rattle.theory_tables.specs.Condition.{decide}
+use Rattle.stage_words.specs.Words.{count_of, unknown_at}
 use Rattle.stage_words.proofs.first_unknown.Goals as goal
 
-pub returns-then-not-is_stage : goal.returns-then-not-is_stage
-returns-then-not-is_stage c =
-    let known = c.is_stage.ensures ∙ ap is_stage c.stage_words.ensures in
-    look_found c.loop-i.invariant (omega arith) (ap not (sym known ∙ c.if-not-is_stage.true))
+-- what is found below n, or else n, is the first that passes the test
+found : (t : ℕ → Bool) (n : ℕ) (r : Option ℕ)
+    → MatchOption r ((k : ℕ) → 0 ≤ k → k < n → t k ≡ false) (λ i. (0 ≤ i) × (i < n) × (t i ≡ true) × ((k : ℕ) → 0 ≤ k → k < i → t k ≡ false))
+    → unwrap_or r n ≡ first_of t n
+found t n None told = sym (first_none t n (λ k h. told k (omega arith) h))
+found t n (Some i) told = sym (first_is t n i told.1 (λ k h. told.3 k (omega arith) h) told.2)
 
 pub returns : goal.returns
-returns c = let e : length c.args.words.now / word_count ≡ c.loop-i.i = omega arith in e ∙ look_over c.loop-i.invariant (omega arith)
+returns c =
+    let words = c.args.words.now in
+    let unknown : ℕ → Bool = λ i. decide (unknown_at words i) in
+    let told = first_from_Range _ _ _ c.find.result (λ i. unknown i ≡ true) (λ i. unknown i ≡ false) c.find.ensures.ran (λ x q k. search (rules, tests)) (λ x q k. search (rules, tests)) in
+    c.unwrap_or.ensures ∙ found unknown (count_of words) _ told

@@ -1,12 +1,10 @@
 -- `four_at` meets its contract. Assumes nothing.
-use mathlib.Core.Path.{sym}
-use Rattle.wav_bytes.specs.Bytes.{four_at}
-use Rattle.wav_bytes.proofs.Past.{four_past}
+use Rattle.std.proofs.Common.{add-zero, add_assoc, lit<, arith}
+use Rattle.wav_bytes.specs.Bytes.{two_at, four_at}
 use Rattle.wav_bytes.proofs.four_at.Goals as goal
 
-pub returns-then-at-bytes : goal.returns-then-at-bytes
-unfolding four_at
-returns-then-at-bytes c = rw (c.two_at.ensures.0, c.two_at-then-at-bytes.ensures.0)
-
 pub returns : goal.returns
-returns c = sym (four_past c.args.bytes.now c.args.at c.if-at-bytes.false)
+unfolding two_at four_at
+returns c =
+    let b = c.bytes_at.ensures in
+    rw (add_assoc c.args.at 2 1) (omega (arith, c.from_le_bytes.ensures, rw add-zero at (b 0 (lit< tt)), b 1 (lit< tt), b 2 (lit< tt), b 3 (lit< tt)))

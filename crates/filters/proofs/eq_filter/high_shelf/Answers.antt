@@ -5,4 +5,4 @@ use Rattle.filters.proofs.eq_filter.high_shelf.Goals as goal
 
 pub returns : goal.returns
 unfolding high_shelf_of literal round of_bits
-returns c = rw (c.weigh-a1.ensures, c.sqrt_f64.ensures)
+returns c = rw (c.weigh-a1.ensures, c.sqrt.ensures)

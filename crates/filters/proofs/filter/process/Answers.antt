@@ -13,5 +13,5 @@ returns c =
       c.as_f32.ensures,
       c.run_narrowed.ensures,
       c.weigh.ensures,
-      c.clamp_unit_f64.ensures,
+      c.clamp_unit.ensures,
     )

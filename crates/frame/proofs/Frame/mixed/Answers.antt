@@ -7,4 +7,4 @@ pub returns : goal.returns
 unfolding mix_of literal round of_bits
 returns c =
     rw
-    (c.add.ensures, c.mul.ensures, c.sqrt_f32-2.ensures, c.mul-wet.ensures, c.sqrt_f32.ensures, c.clamp_unit_f32-clamped.ensures)
+    (c.add.ensures, c.mul.ensures, c.sqrt-2.ensures, c.mul-wet.ensures, c.sqrt.ensures, c.clamp_unit-clamped.ensures)

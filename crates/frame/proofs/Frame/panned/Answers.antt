@@ -12,5 +12,5 @@ returns-then-panning c = sym (centred _ _ c.if-panning.true)
 pub returns : goal.returns
 unfolding sqrt2 rightward literal round of_bits
 returns c =
-    rw (c.mul.ensures, c.sqrt_f32-2.ensures, c.sqrt_f32.ensures, c.clamp_signed_unit_f32.ensures)
+    rw (c.mul.ensures, c.sqrt-2.ensures, c.sqrt.ensures, c.clamp_signed_unit.ensures)
     (sym (aside _ _ c.if-panning.false))

@@ -1,24 +1,12 @@
--- `start::clear` meets its contract: the first i floats are cleared. The measure is n - i. Assumes nothing.
-use mathlib.Core.Path.{refl, ap, ◌∙◌}
-use native.Mathlib.Omega.{arith}
-use lib.Ieee.{of_bits, round}
-use lib.ListN.{set, length-set}
-use Rattle.float.specs.Literal.{literal}
-use Rattle.fresh_start.specs.Start.{clear_float}
-use Rattle.fresh_start.proofs.Cleared.{cleared_none, cleared_more}
+-- All that is lent to `fill` is cleared, and the rest stays. Assumes nothing.
+use Rattle.std.proofs.Common.{ap, sym, ◌∙◌, ◌++◌, drop, replicate, length-take-le}
+use Rattle.std.specs.Float.{binary32}
+use Rattle.std.specs.Float.Ieee.{of_bits}
+use Rattle.fresh_start.proofs.Cleared.{cleared_zero}
 use Rattle.fresh_start.proofs.start.clear.Goals as goal
 
-pub loop-i-init : goal.loop-i-init
-loop-i-init c = (omega arith, c.requires, cleared_none c.args.store.now, refl)
-
-pub loop-i-preserved : goal.loop-i-preserved
-unfolding literal round of_bits
-loop-i-preserved c =
-    let at = c.loop-i.i in
-    let store = c.args.store.now in
-    let v = c.loop-i.invariant in (
-      omega arith,
-      v.1,
-      ap (λ l. set l at clear_float) v.2 ∙ cleared_more at store (omega arith),
-      length-set c.loop-i.store at clear_float ∙ v.3,
-    )
+pub returns : goal.returns
+returns c =
+    let n = c.args.n in
+    let filled = c.fill.ensures.after (λ y same. same) ∙ ap (λ m. replicate m (of_bits binary32 0)) (length-take-le n c.args.store.now c.requires) in
+    ap (λ part. part ++ drop n c.args.store.now) filled ∙ sym (cleared_zero n c.args.store.now)

@@ -3,8 +3,7 @@ use Rattle.std.proofs.Common.{◌≡◌, ℕ, ◌≤◌, Bool, true, false, List
 use lib.Ieee.{Float}
 use Rattle.line_layout.specs.Layout.{needed_of}
 use Rattle.stage.specs.declared.setup.Setup.{Setup}
-use Rattle.answer.specs.declared.Answer.{Answer}
-use Rattle.answer.specs.Answer.{accepted_of}
+use Rattle.answer.specs.Answer.{Answer, accepted_of}
 use Rattle.refusals.specs.Refusals.{chain_rows, chain_answer}
 use Rattle.refusals.proofs.Parts.{part_clear}
 use Rattle.fresh_start.specs.Start.{cleared_to}

@@ -13,10 +13,9 @@ pub returns : goal.returns
 unfolding answer_of tops_record
 returns c =
     let setup = c.args.setup in
-    let starts = c.starts_of-starts in
-    let used = c.used in
-    let number = c.number_at-needed in
-    let tops = c.tops_of-tops in
-    let needed : number.result ≡ needed_of setup = number.ensures ∙ ap (λ i. get_or starts.result i 0) used.ensures ∙ starts_at setup starts.ensures _ (omega arith) in
+    let layout = c.of-layout in
+    let tops = c.of-tops in
+    let needed : get_or layout.result.starts c.used.result 0 ≡ needed_of setup =
+    ap (λ i. get_or layout.result.starts i 0) c.used.ensures ∙ starts_at setup layout.ensures.starts _ (omega arith) in
     let n : tops.result.n ≡ tops_of setup = ap (λ (t : Tops). t.n) tops.ensures in
-    (rw (← needed, ← n) c.first_refusal-answer.ensures, starts.ensures, tops.ensures)
+    (rw (← needed, ← n) c.first_refusal-answer.ensures, layout.ensures.setup, layout.ensures.starts, tops.ensures)

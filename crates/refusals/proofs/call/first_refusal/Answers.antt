@@ -1,41 +1,66 @@
 -- `call::first_refusal` meets its contract: it asks the table part by part, and at each return the parts before it are past. Assumes nothing.
-use mathlib.Core.Bool.{not}
-use mathlib.Core.Path.{ap, refl, ◌∙◌}
+use mathlib.Core.Path.{◌≡◌, refl, ◌∙◌}
 use mathlib.Core.List.{List}
+use Prim.Native.Nat.{ℕ}
 use native.Mathlib.Omega.{arith}
-use Rattle.theory_tables.specs.Rows.{Row, first_row}
+use lib.Ieee.{Float}
+use lib.ListN.{length, drop}
+use Rattle.std.proofs.lemmas.Result.{err_from_is_err_and}
+use Rattle.theory_tables.specs.Rows.{first_row}
 use Rattle.theory_tables.proofs.Tested.{Gives}
-use Rattle.answer.specs.declared.Answer.{Answer}
-use Rattle.answer.specs.declared.Answer.TheVariants.{Accepted}
+use Rattle.stage.specs.declared.setup.Setup.{Setup}
+use Rattle.answer.specs.Answer.{accepted}
 use Rattle.order_entries.specs.Entries.{order_answer}
 use Rattle.refusals.specs.Refusals.{all_rows, chain_answer, state_answer, sample_answer}
 use Rattle.refusals.proofs.Parts.{part_hit, part_pass}
 use Rattle.refusals.proofs.call.first_refusal.Goals as goal
 
--- all the rows
-table : (rs : List (Row Answer)) → Gives rs Accepted (first_row rs Accepted)
-table rs = record { same = refl }
+module _ (setup : Setup) (needed tops floats : ℕ) (samples : List Float) (positions progress order : List ℕ) where
+  -- past the first n rows
+  abbrev Past : ℕ → Type 0
+  Past n = let rows = all_rows setup needed tops floats samples positions progress order in Gives (drop n rows) accepted (first_row rows accepted)
 
-pub returns-then-not-is_accepted : goal.returns-then-not-is_accepted
+  past_none : Past 0
+  past_none = record { same = refl }
+
+  module _ (chain : accepted ≡ chain_answer setup needed floats) where
+    past_chain : Past 5
+    unfolding chain_answer
+    past_chain = part_pass past_none 5 (omega arith) chain
+
+    module _ (state : accepted ≡ state_answer setup tops positions (length samples) progress) where
+      past_state : Past 9
+      unfolding state_answer
+      past_state = part_pass past_chain 4 (omega arith) state
+
+      past_samples : accepted ≡ sample_answer tops samples progress → Past 10
+      unfolding sample_answer
+      past_samples sample = part_pass past_state 1 (omega arith) sample
+
+pub returns-in_err-check_chain : goal.returns-in_err-check_chain
 unfolding chain_answer
-returns-then-not-is_accepted c = part_hit (table (all_rows c.args.setup c.args.needed c.args.tops c.args.floats c.args.samples.now c.args.positions.now c.args.progress.now c.args.order.now)) 5 c.check_chain-chain.ensures c.is_accepted.ensures (ap not c.if-not-is_accepted.true)
+returns-in_err-check_chain c =
+    let a = c.args in
+    let p = err_from_is_err_and c.from_residual.result c.from_residual.ensures.1 in
+    rw (p.1, p.2) (part_hit (past_none a.setup.now a.needed a.tops a.floats a.samples.now a.positions.now a.progress.now a.order.now) 5 c.in_err-check_chain.ensures)
 
-pub returns-then-not-is_accepted-2 : goal.returns-then-not-is_accepted-2
-unfolding chain_answer state_answer
-returns-then-not-is_accepted-2 c =
-    let past_chain = part_pass (table (all_rows c.args.setup c.args.needed c.args.tops c.args.floats c.args.samples.now c.args.positions.now c.args.progress.now c.args.order.now)) 5 c.check_chain-chain.ensures c.is_accepted.ensures (omega arith) (ap not c.if-not-is_accepted.false) in
-    part_hit past_chain 4 c.check_state-state.ensures c.is_accepted-2.ensures (ap not c.if-not-is_accepted-2.true)
+pub returns-in_err-check_state : goal.returns-in_err-check_state
+unfolding state_answer
+returns-in_err-check_state c =
+    let a = c.args in
+    let p = err_from_is_err_and c.from_residual-in_err-check_state.result c.from_residual-in_err-check_state.ensures.1 in
+    rw (p.1, p.2) (part_hit (past_chain a.setup.now a.needed a.tops a.floats a.samples.now a.positions.now a.progress.now a.order.now c.in_ok-check_chain.ensures) 4 c.in_err-check_state.ensures)
 
-pub returns-then-not-is_accepted-3 : goal.returns-then-not-is_accepted-3
-unfolding chain_answer state_answer sample_answer
-returns-then-not-is_accepted-3 c =
-    let past_chain = part_pass (table (all_rows c.args.setup c.args.needed c.args.tops c.args.floats c.args.samples.now c.args.positions.now c.args.progress.now c.args.order.now)) 5 c.check_chain-chain.ensures c.is_accepted.ensures (omega arith) (ap not c.if-not-is_accepted.false) in
-    let past_state = part_pass past_chain 4 c.check_state-state.ensures c.is_accepted-2.ensures (omega arith) (ap not c.if-not-is_accepted-2.false) in
-    part_hit past_state 1 c.check_samples-sample.ensures c.is_accepted-3.ensures (ap not c.if-not-is_accepted-3.true)
+pub returns-in_err-check_samples : goal.returns-in_err-check_samples
+unfolding sample_answer
+returns-in_err-check_samples c =
+    let a = c.args in
+    let p = err_from_is_err_and c.from_residual-in_err-check_samples.result c.from_residual-in_err-check_samples.ensures.1 in
+    rw (p.1, p.2) (part_hit (past_state a.setup.now a.needed a.tops a.floats a.samples.now a.positions.now a.progress.now a.order.now c.in_ok-check_chain.ensures c.in_ok-check_state.ensures) 1 c.in_err-check_samples.ensures)
 
 pub returns : goal.returns
-unfolding chain_answer state_answer sample_answer order_answer
+unfolding order_answer
 returns c =
-    let past_chain = part_pass (table (all_rows c.args.setup c.args.needed c.args.tops c.args.floats c.args.samples.now c.args.positions.now c.args.progress.now c.args.order.now)) 5 c.check_chain-chain.ensures c.is_accepted.ensures (omega arith) (ap not c.if-not-is_accepted.false) in
-    let past_state = part_pass past_chain 4 c.check_state-state.ensures c.is_accepted-2.ensures (omega arith) (ap not c.if-not-is_accepted-2.false) in
-    c.check_order.ensures ∙ (part_pass past_state 1 c.check_samples-sample.ensures c.is_accepted-3.ensures (omega arith) (ap not c.if-not-is_accepted-3.false)).same
+    let a = c.args in
+    c.check_order.ensures
+    ∙ (past_samples a.setup.now a.needed a.tops a.floats a.samples.now a.positions.now a.progress.now a.order.now c.in_ok-check_chain.ensures c.in_ok-check_state.ensures c.in_ok-check_samples.ensures).same

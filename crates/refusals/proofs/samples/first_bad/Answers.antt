@@ -1,15 +1,12 @@
--- `samples::first_bad` meets its contract: below `from` no sample counts as bad, and it has looked at those below i. The measure is what is left to look at. Assumes nothing.
-use mathlib.Core.Path.{ap}
+-- `samples::first_bad` meets its contract: it looks at each sample from `from` on in turn. Assumes nothing.
 use mathlib.Core.Bool.{not}
-use native.Mathlib.Omega.{arith}
-use borrow.Author.Tests.{le-leb}
-use Rattle.theory_tables.proofs.Firsts.{look_found, look_over}
+use lib.ListN.{get_or}
+use lib.Ieee.{nan}
+use borrow.Author.Rules.{rules}
+use borrow.Author.Tests.{tests}
+use Rattle.float.specs.Finite.{finite_of}
+use Rattle.theory_tables.proofs.Searches.{found_from_find}
 use Rattle.refusals.proofs.samples.first_bad.Goals as goal
 
-pub returns-then-not-is_finite_f32 : goal.returns-then-not-is_finite_f32
-returns-then-not-is_finite_f32 c =
-    let at = c.loop-i in
-    look_found at.invariant.1 (omega arith) (rw (le-leb _ at.i at.invariant.0, ← c.is_finite_f32.ensures) (ap not c.if-not-is_finite_f32.true))
-
 pub returns : goal.returns
-returns c = look_over c.loop-i.invariant.1 (omega arith)
+returns c = found_from_find (λ i. not (finite_of (get_or c.args.samples.now i nan))) _ _ _ c.find.result c.find.ensures.ran (λ x b q k. search (rules, tests))

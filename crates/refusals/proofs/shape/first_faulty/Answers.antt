@@ -1,11 +1,16 @@
--- `shape::first_faulty` meets its contract: it has looked at the numbers below i. The measure is what is left to look at. Assumes nothing.
-use mathlib.Core.Path.{sym, ◌∙◌}
-use native.Mathlib.Omega.{arith}
-use Rattle.theory_tables.proofs.Firsts.{look_found, look_over}
+-- `shape::first_faulty` meets its contract: it looks at each number in turn. Assumes nothing.
+use mathlib.Core.Path.{refl, ap, ◌∙◌}
+use Prim.Native.Nat.{ℕ}
+use borrow.Author.Rules.{rules}
+use borrow.Author.Tests.{tests}
+use Rattle.theory_tables.specs.First.{found_of}
+use Rattle.theory_tables.specs.Condition.{decide}
+use Rattle.theory_tables.proofs.Searches.{found_by_find}
+use Rattle.refusals.specs.Shape.{faulty}
 use Rattle.refusals.proofs.shape.first_faulty.Goals as goal
 
-pub returns-then-is_faulty : goal.returns-then-is_faulty
-returns-then-is_faulty c = look_found c.loop-i.invariant (omega arith) (sym c.is_faulty.ensures ∙ c.if-is_faulty.true)
-
 pub returns : goal.returns
-returns c = look_over c.loop-i.invariant (omega arith)
+returns c =
+    let test = λ (i : ℕ). decide (faulty c.args.setup.now i) in
+    found_by_find test _ _ _ c.find.result c.find.ensures.ran (λ x b q k. search (rules, tests)) refl
+    ∙ ap (found_of test) c.used.ensures

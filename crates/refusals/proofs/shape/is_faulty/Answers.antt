@@ -1,27 +1,27 @@
 -- `shape::is_faulty` meets its contract: a branch for each way to be at fault. Assumes nothing.
-use mathlib.Core.Path.{refl}
-use mathlib.Core.Bool.{or-true}
+use mathlib.Core.Path.{◌≡◌, refl, ◌∙◌}
+use mathlib.Core.Bool.{◌||◌}
 use native.Mathlib.Omega.{arith}
+use lib.Dec.{leb}
 use borrow.Author.Tests.{le-leb, lt-leb}
-use Rattle.theory_tables.proofs.Bools.{less_so, less_not}
+use Rattle.theory_tables.specs.Condition.{decide, among}
 use Rattle.stage.specs.Setup.{used_of}
-use Rattle.refusals.specs.Shape.{last_of, faulty}
+use Rattle.refusals.specs.Shape.{last_of, outgrows, faulty}
 use Rattle.refusals.proofs.shape.is_faulty.Goals as goal
+use Rattle.refusals.proofs.shape.is_faulty.Goals.{Joined-used-i, then-used-i, else-used-i}
 
-pub returns-then-used-i : goal.returns-then-used-i
-unfolding faulty
-returns-then-used-i c = let a = c.args in rw (le-leb (used_of a.setup) (last_of a.setup a.i) (omega arith))
-
-pub returns-then-first_outgrown-i : goal.returns-then-first_outgrown-i
-unfolding faulty
-returns-then-first_outgrown-i c = rw (less_so c.first_outgrown.ensures refl c.if-first_outgrown-i.true, or-true)
-
-pub returns : goal.returns
-unfolding faulty
-returns c =
+shaped : (c : Joined-used-i) → let a = c.args in c.if-used-i.value ≡ (leb (used_of a.setup.now) (last_of a.setup.now a.i) || decide (among a.i (outgrows a.setup.now a.i)))
+shaped c =
     let a = c.args in
-    rw (
-      lt-leb (used_of a.setup) (last_of a.setup a.i) (omega arith),
-      less_not c.first_outgrown.ensures refl c.if-first_outgrown-i.false,
-      c.depth.ensures,
-    )
+    elim c.if-used-i.branch [
+      | then-used-i w ↦ rw (le-leb (used_of a.setup.now) (last_of a.setup.now a.i) (omega (arith, w.if-used-i.true, c.used.ensures, c.owned_at.ensures))) (w.value-is ∙ le-leb _ _ w.if-used-i.true)
+      | else-used-i w ↦ rw (lt-leb (used_of a.setup.now) (last_of a.setup.now a.i) (omega (arith, w.if-used-i.false, c.used.ensures, c.owned_at.ensures))) (w.value-is ∙ w.outgrows_an_owner.ensures)
+    ]
+
+pub returns-then-outgrows_an_owner : goal.returns-then-outgrows_an_owner
+unfolding faulty
+returns-then-outgrows_an_owner c = rw (← shaped (goal.at.returns-then-outgrows_an_owner c).Joined-used-i, c.if-outgrows_an_owner.true) refl
+
+pub returns-else-outgrows_an_owner : goal.returns-else-outgrows_an_owner
+unfolding faulty
+returns-else-outgrows_an_owner c = rw (← shaped (goal.at.returns-else-outgrows_an_owner c).Joined-used-i, c.if-outgrows_an_owner.false, c.depth.ensures) refl

@@ -1,11 +1,11 @@
--- `state::first_ahead` meets its contract: it has looked at the numbers below k. The measure is what is left to look at. Assumes nothing.
-use mathlib.Core.Path.{sym, ◌∙◌}
-use native.Mathlib.Omega.{arith}
-use Rattle.theory_tables.proofs.Firsts.{look_found, look_over}
+-- `state::first_ahead` meets its contract: it looks at each number in turn. Assumes nothing.
+use mathlib.Core.Path.{refl}
+use borrow.Author.Rules.{rules}
+use borrow.Author.Tests.{tests}
+use Rattle.theory_tables.specs.Condition.{decide}
+use Rattle.theory_tables.proofs.Searches.{found_by_find}
+use Rattle.refusals.specs.Refusals.{ahead_at}
 use Rattle.refusals.proofs.state.first_ahead.Goals as goal
 
-pub returns-then-is_ahead : goal.returns-then-is_ahead
-returns-then-is_ahead c = look_found c.loop-k.invariant (omega arith) (sym c.is_ahead.ensures ∙ c.if-is_ahead.true)
-
 pub returns : goal.returns
-returns c = look_over c.loop-k.invariant (omega arith)
+returns c = found_by_find (λ k. decide (ahead_at c.args.frames c.args.progress.now k)) _ _ _ c.find.result c.find.ensures.ran (λ x b q k. search (rules, tests)) refl

@@ -25,4 +25,4 @@ pub returns : goal.returns
 returns c =
     let a = c.args in
     let t = fields_normal a.field a.digits c.nearest_quotient-2.result (omega arith) (omega arith) (omega arith) (c.nearest_quotient-2.ensures ∙ quotient_pow (2 ^ 52 + a.digits) 29) in
-    (subst (Narrowed a.field a.digits) (sym c.lesser.ensures) t.0, omega (arith, c.lesser.ensures))
+    (subst (Narrowed a.field a.digits) (sym c.min.ensures) t.0, omega (arith, c.min.ensures))

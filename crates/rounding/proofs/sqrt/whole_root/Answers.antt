@@ -6,7 +6,7 @@ use Rattle.rounding.proofs.sqrt.whole_root.Goals.{In-loop-i, then-trial-next, el
 
 -- in a turn the root is short
 short : (c : In-loop-i) → c.loop-i.root < 2 ^ 53
-short c = let l = c.loop-i in bound l.i c.args.n l.root l.invariant.0 l.invariant.1 l.invariant.2.2
+short c = let l = c.loop-i in bound l._i c.args.n l.root l.invariant.0 l.invariant.1 l.invariant.2.2
 
 pub overflow_mul-next : goal.overflow_mul-next
 overflow_mul-next c = omega (arith, short (goal.at.overflow_mul-next c).In-loop-i)
@@ -27,7 +27,7 @@ loop-i-preserved c =
       omega arith,
       l.invariant.1,
       elim c.if-trial-next.branch [
-        | then-trial-next a ↦ moved w (l.i + 1) (l.word % 2 ^ 62 * 4) a.root-is a.rest-is (digit_one w l.i l.root l.rest l.word l.invariant.2 a.if-trial-next.true)
-        | else-trial-next a ↦ moved w (l.i + 1) (l.word % 2 ^ 62 * 4) a.root-is a.rest-is (digit_nought w l.i l.root l.rest l.word l.invariant.2 a.if-trial-next.false)
+        | then-trial-next a ↦ moved w (l._i + 1) (l.word % 2 ^ 62 * 4) a.root-is a.rest-is (digit_one w l._i l.root l.rest l.word l.invariant.2 a.if-trial-next.true)
+        | else-trial-next a ↦ moved w (l._i + 1) (l.word % 2 ^ 62 * 4) a.root-is a.rest-is (digit_nought w l._i l.root l.rest l.word l.invariant.2 a.if-trial-next.false)
       ],
     )

@@ -1,9 +1,6 @@
-use Prim.Native.Nat.{◌≤◌, ◌-◌}
+use Prim.Native.Nat.{◌≤◌}
 use Rattle.rounding.proofs.RootDigit.{Turn}
 use Rattle.rounding.proofs.sqrt.whole_root.Given as goal
 
 abbrev pub invariant-loop-i : goal.invariant-loop-i
-invariant-loop-i l = (l.i ≤ l.n) × (l.n ≤ 53) × Turn l.w l.i l.root l.rest l.word
-
-abbrev pub decreases-loop-i : goal.decreases-loop-i
-decreases-loop-i l = l.n - l.i
+invariant-loop-i l = (l._i ≤ l.n) × (l.n ≤ 53) × Turn l.w l._i l.root l.rest l.word

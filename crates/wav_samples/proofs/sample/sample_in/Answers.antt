@@ -4,4 +4,4 @@ use Rattle.wav_samples.proofs.Signed as sg
 use Rattle.wav_samples.proofs.sample.sample_in.Goals as goal
 
 pub returns : goal.returns
-returns c = rw (sg.read_back c.args.s c.ranges.s.sfits) (in_is c.args.s c.ranges.s.sfits)
+returns c = rw (c.from.ensures, sg.read_back c.args.s c.ranges.s.sfits) (in_is c.args.s c.ranges.s.sfits)

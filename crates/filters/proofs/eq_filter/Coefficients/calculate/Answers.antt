@@ -10,8 +10,8 @@ use Rattle.filters.specs.EqFilter.{bell_of, low_shelf_of, high_shelf_of, coeffic
 use Rattle.filters.proofs.eq_filter.Coefficients.calculate.Goals as goal
 use Rattle.filters.proofs.eq_filter.Coefficients.calculate.Goals.{After-eq_amplitude-a}
 
-settled : (kind_of : Float → Float → Float → Coefficients) (c : After-eq_amplitude-a) → kind_of c.args.g c.at_least_hundredth_f64-q.result c.eq_amplitude-a.result ≡ kind_of c.args.g (hundredth_of c.args.q) (eq_amplitude_of c.args.gain)
-settled kind_of c = rw (c.eq_amplitude-a.ensures, c.at_least_hundredth_f64-q.ensures, to_z-of_z w32 c.args.gain c.ranges.gain)
+settled : (kind_of : Float → Float → Float → Coefficients) (c : After-eq_amplitude-a) → kind_of c.args.g c.at_least_hundredth-q.result c.eq_amplitude-a.result ≡ kind_of c.args.g (hundredth_of c.args.q) (eq_amplitude_of c.args.gain)
+settled kind_of c = rw (c.eq_amplitude-a.ensures, c.at_least_hundredth-q.ensures, to_z-of_z w32 c.args.gain c.ranges.gain)
 
 pub returns-in-Bell : goal.returns-in-Bell
 unfolding coefficients_of

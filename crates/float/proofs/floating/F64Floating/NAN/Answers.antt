@@ -1,0 +1,7 @@
+use mathlib.Core.Path.{refl}
+use lib.Ieee.{of_bits}
+use Rattle.float.proofs.floating.F64Floating.NAN.Goals as goal
+
+pub returns : goal.returns
+unfolding of_bits
+returns c = refl

@@ -1,0 +1,8 @@
+use mathlib.Core.Path.{refl}
+use lib.Ieee.{of_bits, round}
+use Rattle.float.specs.Literal.{literal}
+use Rattle.float.proofs.floating.F64Floating.ZERO.Goals as goal
+
+pub returns : goal.returns
+unfolding literal round of_bits
+returns c = refl

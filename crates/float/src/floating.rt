@@ -1,0 +1,277 @@
+// f32 and f64 seen as one: what the code needs that Rust has at each of the two apart.
+ghost use Rattle.std.specs.Prelude.{◌≡◌, ◌*◌, ◌<◌, ℕ, true, Float, refl, to_bits};
+ghost use Rattle.std.specs.Float.{Format, NotNan, NotNanBits, binary32, binary64, nan};
+ghost use Rattle.std.specs.Float.Ieee.{eq, fits, hid, low, of_bits, ones, prec, top};
+ghost use Rattle.std.specs.Ordering.{float_partial_cmp};
+ghost use Rattle.float.specs.Literal.{literal};
+
+// A binary format of IEEE 754, f32 or f64. The methods are steps of this crate's functions and of
+// `rounding`'s.
+pub trait Floating: Copy + PartialOrd {
+    // Where the bits are kept, u32 or u64.
+    type Bits: Copy;
+
+    const ZERO: Self;
+
+    const ONE: Self;
+
+    const NAN: Self;
+
+    // The bits of -0, of the infinity and of the NaN, and the lowest bit of the exponent's field.
+    const SIGN: u64;
+
+    const INFINITY: u64;
+
+    const NAN_BITS: Self::Bits;
+
+    const HIDDEN: u64;
+
+    // How many binary digits a number has, and how many of the smallest positive number lie behind
+    // the point.
+    const DIGITS: u64;
+
+    const PLACES: u64;
+
+    ghost format: { Format };
+
+    // A value and a bit pattern, as the specifications see them.
+    ghost value: { Self → Float };
+
+    ghost number: { Self.Bits → ℕ };
+
+    ghost ZERO: { Self };
+
+    ghost ONE: { Self };
+
+    ghost NAN: { Self };
+
+    ghost SIGN: { ℕ };
+
+    ghost INFINITY: { ℕ };
+
+    ghost NAN_BITS: { Self.Bits };
+
+    ghost HIDDEN: { ℕ };
+
+    ghost DIGITS: { ℕ };
+
+    ghost PLACES: { ℕ };
+
+    fn own_bits(self) -> Self::Bits
+        requires { NotNan (value self) }
+        ensures bits { number result ≡ to_bits format (value self) }
+        ensures fits { fits format (value self) ≡ true };
+
+    fn from_own_bits(bits: Self::Bits) -> Self
+        requires { NotNanBits format (number bits) }
+        ensures { value result ≡ of_bits format (number bits) };
+
+    fn widen(bits: Self::Bits) -> u64
+        ensures { result ≡ number bits };
+
+    fn narrow(bits: u64) -> Self::Bits
+        requires { bits < 2 * top format }
+        ensures { number result ≡ bits };
+
+    ghost zero_is: { value ZERO ≡ literal format 0 1 };
+
+    ghost one_is: { value ONE ≡ literal format 1 1 };
+
+    ghost nan_is: { value NAN ≡ nan };
+
+    ghost sign_is: { SIGN ≡ top format };
+
+    ghost infinity_is: { INFINITY ≡ ones format * hid format };
+
+    ghost hidden_is: { HIDDEN ≡ hid format };
+
+    ghost digits_is: { DIGITS ≡ prec format };
+
+    ghost places_is: { PLACES ≡ low format };
+
+    ghost nan_bits_is: { number NAN_BITS ≡ to_bits format nan };
+
+    ghost equal: { (a b : Self) → Self.eq a b ≡ eq (value a) (value b) };
+
+    ghost order: { (a b : Self) → Self.partial_cmp a b ≡ float_partial_cmp (value a) (value b) };
+
+    ghost same_value: { (a b : Self) → value a ≡ value b → a ≡ b };
+
+    ghost same_number: { (a b : Self.Bits) → number a ≡ number b → a ≡ b };
+}
+
+impl Floating for f32 {
+    type Bits = u32;
+
+    const ZERO: f32 = 0.0;
+
+    const ONE: f32 = 1.0;
+
+    const NAN: f32 = f32::NAN;
+
+    const SIGN: u64 = 0x8000_0000;
+
+    const INFINITY: u64 = 0x7f80_0000;
+
+    const NAN_BITS: u32 = 0x7fc0_0000;
+
+    const HIDDEN: u64 = 0x80_0000;
+
+    const DIGITS: u64 = 24;
+
+    const PLACES: u64 = 149;
+
+    ghost format = { binary32 };
+
+    ghost value = { λ x. x };
+
+    ghost number = { λ n. n };
+
+    ghost ZERO = { literal binary32 0 1 };
+
+    ghost ONE = { literal binary32 1 1 };
+
+    ghost NAN = { nan };
+
+    ghost SIGN = { 0x8000_0000 };
+
+    ghost INFINITY = { 0x7f80_0000 };
+
+    ghost NAN_BITS = { to_bits binary32 nan };
+
+    ghost HIDDEN = { 0x80_0000 };
+
+    ghost DIGITS = { 24 };
+
+    ghost PLACES = { 149 };
+
+    fn own_bits(self) -> u32 {
+        f32::to_bits(self)
+    }
+
+    fn from_own_bits(bits: u32) -> f32 {
+        f32::from_bits(bits)
+    }
+
+    fn widen(bits: u32) -> u64 {
+        bits as u64
+    }
+
+    fn narrow(bits: u64) -> u32 {
+        bits as u32
+    }
+
+    ghost zero_is = { refl };
+
+    ghost one_is = { refl };
+
+    ghost nan_is = { refl };
+
+    ghost sign_is = { refl };
+
+    ghost infinity_is = { refl };
+
+    ghost hidden_is = { refl };
+
+    ghost digits_is = { refl };
+
+    ghost places_is = { refl };
+
+    ghost nan_bits_is = { refl };
+
+    ghost equal = { λ a b. refl };
+
+    ghost order = { λ a b. refl };
+
+    ghost same_value = { λ a b h. h };
+
+    ghost same_number = { λ a b h. h };
+}
+
+impl Floating for f64 {
+    type Bits = u64;
+
+    const ZERO: f64 = 0.0;
+
+    const ONE: f64 = 1.0;
+
+    const NAN: f64 = f64::NAN;
+
+    const SIGN: u64 = 0x8000_0000_0000_0000;
+
+    const INFINITY: u64 = 0x7ff0_0000_0000_0000;
+
+    const NAN_BITS: u64 = 0x7ff8_0000_0000_0000;
+
+    const HIDDEN: u64 = 0x10_0000_0000_0000;
+
+    const DIGITS: u64 = 53;
+
+    const PLACES: u64 = 1074;
+
+    ghost format = { binary64 };
+
+    ghost value = { λ x. x };
+
+    ghost number = { λ n. n };
+
+    ghost ZERO = { literal binary64 0 1 };
+
+    ghost ONE = { literal binary64 1 1 };
+
+    ghost NAN = { nan };
+
+    ghost SIGN = { 0x8000_0000_0000_0000 };
+
+    ghost INFINITY = { 0x7ff0_0000_0000_0000 };
+
+    ghost NAN_BITS = { to_bits binary64 nan };
+
+    ghost HIDDEN = { 0x10_0000_0000_0000 };
+
+    ghost DIGITS = { 53 };
+
+    ghost PLACES = { 1074 };
+
+    fn own_bits(self) -> u64 {
+        f64::to_bits(self)
+    }
+
+    fn from_own_bits(bits: u64) -> f64 {
+        f64::from_bits(bits)
+    }
+
+    fn widen(bits: u64) -> u64 {
+        bits
+    }
+
+    fn narrow(bits: u64) -> u64 {
+        bits
+    }
+
+    ghost zero_is = { refl };
+
+    ghost one_is = { refl };
+
+    ghost nan_is = { refl };
+
+    ghost sign_is = { refl };
+
+    ghost infinity_is = { refl };
+
+    ghost hidden_is = { refl };
+
+    ghost digits_is = { refl };
+
+    ghost places_is = { refl };
+
+    ghost nan_bits_is = { refl };
+
+    ghost equal = { λ a b. refl };
+
+    ghost order = { λ a b. refl };
+
+    ghost same_value = { λ a b h. h };
+
+    ghost same_number = { λ a b h. h };
+}
