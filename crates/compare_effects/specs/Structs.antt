@@ -1,5 +1,6 @@
 -- From the structs of this crate, which C can read, to those of `frame`, `integrators` and `filters`, and back: the
 -- same numbers under the same names. Definitions only.
+use Rattle.std.specs.Prelude.{Float}
 use Rattle.frame.specs.declared.Frame.{Frame}
 use Rattle.integrators.specs.declared.Integrators.{Integrators}
 use Rattle.integrators.specs.declared.Filtered.{Filtered}
@@ -32,7 +33,7 @@ abbrev pub processed_out : Filtered → Processed
 processed_out f = record { output = pair_out f.output; after = integrators_out f.after }
 
 -- the weights a1, a2 and a3
-abbrev pub weights_out : Weights → Three
+abbrev pub weights_out : Weights Float → Three
 weights_out w = record { a1 = w.a1; a2 = w.a2; a3 = w.a3 }
 
 -- an EQ's six coefficients

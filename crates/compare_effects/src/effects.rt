@@ -115,10 +115,10 @@ impl From<Filtered> for Processed {
     }
 }
 
-impl From<Weights> for Three {
+impl From<Weights<f64>> for Three {
     ghost from_gives = { λ weights three. three ≡ weights_out weights };
 
-    fn from(weights: Weights) -> Three {
+    fn from(weights: Weights<f64>) -> Three {
         Three {
             a1: weights.a1,
             a2: weights.a2,
