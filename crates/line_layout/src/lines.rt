@@ -13,8 +13,7 @@ use stage::kind::{Lines, Stage};
 pub fn floats_of(rate: u32, stage: Stage) -> usize
     ensures { (result ≡ floats_of rate stage) × (result ≤ line_count * 0x1_0000_0000) }
 {
-    let lines = stage.holding().lines;
-    match lines {
+    match stage.holding().lines {
         Lines::NoLines => 0,
         Lines::ReverbLines => reverb_floats(rate),
         Lines::FrameLine { frames } => 2 * (frames as usize),
