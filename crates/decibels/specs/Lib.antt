@@ -1,2 +1,3 @@
 pub mod Amplitude
 pub mod Power
+pub mod Entry

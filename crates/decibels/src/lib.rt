@@ -2,13 +2,14 @@
 // nearest to its power of ten: proofs/AmplitudeRules.antt shows it by one computed test over each list.
 #![tactic(auto)]
 
-ghost use Rattle.std.specs.Prelude.{◌≡◌};
+ghost use Rattle.std.specs.Prelude.{◌≡◌, ◌+ℤ◌, neg_ℤ};
 ghost use Rattle.decibels.specs.Amplitude.{amplitude_of, eq_amplitude_of};
+ghost use Rattle.decibels.specs.Entry.{entry_at};
 
 use float::bits::from_bits;
 
 // The bits of the f32 nearest to 10^(k/20), for k from -59 to 24.
-const AMPLITUDES: [u32; 84] = [
+static AMPLITUDES: [u32; 84] = [
     0x3a93_10b1,
     0x3aa5_0287,
     0x3ab9_24e5,
@@ -96,7 +97,7 @@ const AMPLITUDES: [u32; 84] = [
 ];
 
 // The bits of the f64 nearest to 10^(k/40), for k from -24 to 24.
-const EQ_AMPLITUDES: [u64; 49] = [
+static EQ_AMPLITUDES: [u64; 49] = [
     0x3fd0_1379_87dd_704c,
     0x3fd1_0754_f9e3_1838,
     0x3fd2_09a3_7aef_4450,
@@ -148,6 +149,14 @@ const EQ_AMPLITUDES: [u64; 49] = [
     0x400f_d93c_1f52_6de0,
 ];
 
+// What a list with an entry for each level from the lowest on has for this level.
+fn looked_up<T: Copy>(list: &[T], lowest: i32, level: i32) -> Option<T>
+    ensures { result ≡ entry_at list.now (level +ℤ neg_ℤ lowest) }
+{
+    let place = usize::try_from(i64::from(level) - i64::from(lowest)).ok()?;
+    list.get(place).copied()
+}
+
 // kira's `Decibels::as_amplitude` for whole decibels: the f32 nearest to 10^(db/20). 0 dB gives 1; at or
 // below -60 dB the amplitude is 0. Above 24 dB, which no stage may have, it is NaN.
 pub fn amplitude(db: i32) -> f32
@@ -156,11 +165,7 @@ pub fn amplitude(db: i32) -> f32
     if db < -59 {
         return 0.0;
     }
-    if db > 24 {
-        return 0.0 / 0.0;
-    }
-    let place = (db + 59) as usize;
-    from_bits(AMPLITUDES[place])
+    looked_up(&AMPLITUDES, -59, db).map_or(f32::NAN, from_bits)
 }
 
 // The amplitude that an EQ works with: the f64 nearest to 10^(gain/40), for a gain in whole dB. A gain
@@ -168,12 +173,5 @@ pub fn amplitude(db: i32) -> f32
 pub fn eq_amplitude(gain: i32) -> f64
     ensures { result ≡ eq_amplitude_of gain }
 {
-    if gain < -24 {
-        return 0.0 / 0.0;
-    }
-    if gain > 24 {
-        return 0.0 / 0.0;
-    }
-    let place = (gain + 24) as usize;
-    from_bits(EQ_AMPLITUDES[place])
+    looked_up(&EQ_AMPLITUDES, -24, gain).map_or(f64::NAN, from_bits)
 }

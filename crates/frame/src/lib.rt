@@ -11,8 +11,9 @@ ghost use Rattle.frame.specs.Panning.{panned_of};
 use float::clamp::{clamp_signed_unit, clamp_unit};
 use rounding::sqrt::sqrt;
 
-// kira's `Frame`: a left and a right sample, any two floats, NaN and infinities included.
-#[derive(Clone, Copy)]
+// kira's `Frame`, with its derives: a left and a right sample, any two floats, NaN and infinities
+// included.
+#[derive(Debug, Clone, Copy, PartialEq, Default)]
 pub struct Frame {
     pub left: f32,
     pub right: f32,
