@@ -20,7 +20,7 @@ refused r (Ok given) = r
 refused r (Err refusal) = Err refusal
 
 -- two calls of which the answer and what is left are the same, the memories and the progress among it
-module _ (memories : Memories) (progress : List ℕ) (xs st xs' st' : List Float) where
+module _ (memories : Memories) (progress : List ℕ) {xs st xs' st' : List Float} where
   same_outcome : (r r' : Result Outcome Refusal) → answer_given r ≡ answer_given r'
       → block xs st (carried memories progress r) ≡ block xs' st' (carried memories progress r') → r ≡ r'
   unfolding refused
@@ -30,11 +30,11 @@ module _ (memories : Memories) (progress : List ℕ) (xs st xs' st' : List Float
   same_outcome (Err refusal) (Ok o) e f = absurd (true≢false (sym (ap is_ok e)))
   same_outcome (Err refusal) (Err refusal') e f = ap (refused (Err refusal)) e
 
-  same_leaves : {o o' : Outcome} → block xs st o ≡ block xs' st' o' → ◌≡◌ {A = Leaves} (record { samples = xs; store = st }) (record { samples = xs'; store = st' })
-  same_leaves f = λ i. record { samples = (f i).samples; store = (f i).held.store }
+same_leaves : {xs st xs' st' : List Float} {o o' : Outcome} → block xs st o ≡ block xs' st' o' → ◌≡◌ {A = Leaves} (record { samples = xs; store = st }) (record { samples = xs'; store = st' })
+same_leaves f = λ i. record { samples = (f i).samples; store = (f i).held.store }
 
 pub run_single : SingleLent {D = Leaves} run.run.Reads.Post (λ κs s. record { samples = s.1.0.now; store = s.1.1.1.0.now })
-run_single κs a r r' s s' p q = (same_outcome _ _ _ _ _ _ r r' (p.0 ∙ sym q.0) (p.1 ∙ sym q.1), same_leaves _ _ _ _ _ _ (p.1 ∙ sym q.1))
+run_single κs a r r' s s' p q = (same_outcome _ _ r r' (p.0 ∙ sym q.0) (p.1 ∙ sym q.1), same_leaves (p.1 ∙ sym q.1))
 
 pub render_single : SingleLent {D = Leaves} render.render.Reads.Post (λ κs s. record { samples = s.1.0.now; store = s.1.1.1.0.now })
-render_single κs a r r' s s' p q = (same_outcome _ _ _ _ _ _ r r' (p.0 ∙ sym q.0) (p.1 ∙ sym q.1), same_leaves _ _ _ _ _ _ (p.1 ∙ sym q.1))
+render_single κs a r r' s s' p q = (same_outcome _ _ r r' (p.0 ∙ sym q.0) (p.1 ∙ sym q.1), same_leaves (p.1 ∙ sym q.1))
