@@ -80,7 +80,8 @@ pub fn keep(filtered: Filtered, floats: &mut [f32]) -> Frame
     output
 }
 
-// The number at place i of a list (positions, progress or starts), and 0 past its end.
+// The number at place i of a list (positions, progress or starts), and 0 past its end. Named, since many
+// places read so.
 pub fn number_at(numbers: &[usize], i: usize) -> usize
     ensures { result ≡ get_or numbers.now i 0 }
 {

@@ -1,6 +1,7 @@
 // kira's `reverb.rs`: on each side eight combs side by side, whose outputs are added up, then four
 // all-passes one after another; then the width and the mix. The left side's twelve lines come before
-// the right side's. Each line is lent alone to its comb or all-pass, and the rest is handed on.
+// the right side's. Each line is lent alone to its comb or all-pass, as a part of the store. The store,
+// the positions and the floats go as three slices, since each is taken apart at a place of its own.
 #![tactic(auto)]
 
 ghost use Rattle.std.specs.Prelude.{◌≡◌, List, ◌+◌, ◌≤◌, Float, length, sum};
