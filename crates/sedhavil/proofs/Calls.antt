@@ -1,64 +1,107 @@
--- Laws of a call's fault: what the test of it says, and how a call goes on that can be read. Assumes nothing.
-use mathlib.Core.Path.{◌≡◌, sym, ◌∙◌}
+-- Laws of reading a call: what it says of the lengths, and how a call goes on that can be read. Assumes nothing.
+use Rattle.std.proofs.Common.{◌≡◌, refl, sym, ap, ◌∙◌, true≢false, Bool, true, false, cond, ℕ, List, length, Float, eqb, eqb-true, Result, Ok, Err, is_ok}
 use mathlib.Core.Logic.Dec
-use mathlib.Core.List.{List}
-use Prim.Native.Nat.{ℕ}
 use native.Mathlib.Decide.{ℕ_discrete}
-use lib.Ieee.{Float}
-use lib.ListN.{length}
-use borrow.Author.Tests.{eq-eqb, ne_eqb}
 use Rattle.line.specs.Held.{Held}
 use Rattle.theory_order.specs.Chain.{State}
 use Rattle.memories.specs.Sizes.{places, all_positions, all_floats}
 use Rattle.stage.specs.declared.setup.Setup.{Setup}
+use Rattle.answer.specs.declared.Refusal.{Refusal}
 use Rattle.answer.specs.Answer.{Answer}
+use Rattle.chain.specs.declared.run.Outcome.{Outcome}
 use Rattle.chain.specs.Chain.{state}
+use Rattle.chain.specs.Block.{block, answer_given, carried}
+use Rattle.stage_words.specs.Words.{setup_of}
 use Rattle.sedhavil.specs.declared.Reply.{Reply}
+use Rattle.sedhavil.specs.declared.read.Call.{Call}
 use Rattle.sedhavil.specs.Call.{reply_of, fault_of, read}
-use Rattle.sedhavil.specs.Face.{block_fault}
+use Rattle.sedhavil.specs.Read.{carried_in, call_of, setup_or_fault}
+use Rattle.sedhavil.specs.Face.{words_fault}
 use Rattle.sedhavil.proofs.Tabled.{fault_tabled}
 
--- ---- what a test that was passed says of the lengths
+-- ---- what is read, or a fault
+module _ {A : Type 0} where
+  abbrev given_or : A → Result A Reply → A
+  given_or a (Ok b) = b
+  given_or a (Err fault) = a
+
+  abbrev fault_or : Reply → Result A Reply → Reply
+  fault_or fault (Ok a) = fault
+  fault_or fault (Err other) = other
+
+  pub read_ok : (fault : Reply) {a b : A} → Ok a ≡ read fault (Ok b) (Err fault) → (eqb fault.number 0 ≡ true) × (a ≡ b)
+  read_ok fault {a} {b} = go (eqb fault.number 0)
+    where
+      go : (t : Bool) → Ok a ≡ cond t (Ok b) (Err fault) → (t ≡ true) × (a ≡ b)
+      go true e = (refl, ap (given_or a) e)
+      go false e = absurd (true≢false (ap is_ok e))
+
+  pub read_err : (fault : Reply) {other : Reply} (b : A) → Err other ≡ read fault (Ok b) (Err fault) → (eqb fault.number 0 ≡ false) × (other ≡ fault)
+  read_err fault {other} b = go (eqb fault.number 0)
+    where
+      go : (t : Bool) → Err other ≡ cond t (Ok b) (Err fault) → (t ≡ false) × (other ≡ fault)
+      go true e = absurd (true≢false (sym (ap is_ok e)))
+      go false e = (refl, ap (fault_or other) e)
+
+-- ---- what a call that can be read says of the lengths
 pub record Sized (positions floats progress : ℕ) : Type 0 where
   pub positions_all : positions ≡ all_positions
   pub floats_all : floats ≡ all_floats
   pub progress_all : progress ≡ places
 
-pub sized : (words : List ℕ) {p f g : ℕ} {fault : Reply} → fault ≡ fault_of words p f g → fault.number ≡ 0 → Sized p f g
-sized words {p} {f} {g} e h =
-    let none = (fault_tabled words p f g).clear (rw e at h) in
+pub sized : (words : List ℕ) {p f g : ℕ} → eqb (fault_of words p f g).number 0 ≡ true → Sized p f g
+sized words {p} {f} {g} h =
+    let none = (fault_tabled words p f g).clear (eqb-true _ 0 h) in
     record {
       positions_all = (Dec.not-not (ℕ_discrete p all_positions)).0 none.1.0;
       floats_all = (Dec.not-not (ℕ_discrete f all_floats)).0 none.1.1.0;
       progress_all = (Dec.not-not (ℕ_discrete g places)).0 none.1.1.1.0;
     }
 
--- ---- a call by its test: of its fault, found as r
-module _ {fault r : Reply} (e : r ≡ fault) {A : Type 0} (x y : A) where
-  pub refused : (r.number ≡ 0 → ⊥) → read fault x y ≡ y
-  refused h = rw (ne_eqb fault.number 0 (λ z. h (rw e z)))
+-- ---- a call on what is lent
+module _ (rate : ℕ) (words p : List ℕ) (f : List Float) (g : List ℕ) where
+  abbrev fault : Reply
+  fault = fault_of words (length p) (length f) (length g)
 
-  pub taken : r.number ≡ 0 → read fault x y ≡ x
-  taken h = rw (eq-eqb fault.number 0 (rw e at h))
+  -- the call as it is read
+  abbrev told : Call
+  told = record { setup = setup_of rate words; carried = carried_in p f g }
 
--- ---- a call on a block that can be read: its memories and progress were gathered from what was lent, and what it left of them was handed back there
-module _ (words : List ℕ) (xs st : List Float) (p : List ℕ) (f : List Float) (g : List ℕ) where
-  abbrev lent : State Float Held
-  lent = state xs st p f g
+  pub call_ok : {call : Call} → Ok call ≡ call_of rate words p f g → (eqb fault.number 0 ≡ true) × (call ≡ told)
+  unfolding call_of
+  call_ok e = read_ok fault e
 
-  pub block_taken : {fault : Reply} → fault ≡ block_fault words lent → fault.number ≡ 0
-      → (answering : Setup → State Float Held → Answer) (leaving : Setup → State Float Held → State Float Held)
-      {setup setup' : Setup} → setup ≡ setup'
-      → {p₁ : List ℕ} {f₁ : List Float} {g₁ : List ℕ} → (length p ≡ all_positions → p₁ ≡ p) × (length f ≡ all_floats → f₁ ≡ f) → (length g ≡ places → g₁ ≡ g)
-      → {a : Answer} {xs' st' f₂ : List Float} {p₂ g₂ : List ℕ} → (a ≡ answering setup (state xs st p₁ f₁ g₁)) × (state xs' st' p₂ f₂ g₂ ≡ leaving setup (state xs st p₁ f₁ g₁))
-      → {r : Reply} {p₃ g₃ : List ℕ} {f₃ : List Float} → (r ≡ reply_of a) × (length p ≡ all_positions → p₃ ≡ p₂) × (length f ≡ all_floats → f₃ ≡ f₂) × (length g ≡ places → g₃ ≡ g₂)
-      → (r ≡ read (block_fault words lent) (reply_of (answering setup' lent)) (block_fault words lent)) × (state xs' st' p₃ f₃ g₃ ≡ read (block_fault words lent) (leaving setup' lent) lent)
-  block_taken e h answering leaving same gathered got made back =
-      let z = sized words e h in
-      let p_in = gathered.0 z.positions_all in
-      let f_in = gathered.1 z.floats_all in
-      let g_in = got z.progress_all in
-      let p_out = back.1 z.positions_all in
-      let f_out = back.2 z.floats_all in
-      let g_out = back.3 z.progress_all in
-      (rw (taken e _ _ h) (cc), rw (taken e _ _ h) (cc))
+  pub call_err : {other : Reply} → Err other ≡ call_of rate words p f g → (eqb fault.number 0 ≡ false) × (other ≡ fault)
+  unfolding call_of
+  call_err e = read_err fault (told) e
+
+  pub call_sized : {call : Call} → Ok call ≡ call_of rate words p f g → Sized (length p) (length f) (length g)
+  call_sized e = sized words (call_ok e).0
+
+  -- ---- and on a block
+  module _ (xs st : List Float) where
+    abbrev lent : State Float Held
+    lent = state xs st p f g
+
+    -- what `run` or `render` promises of a call, handed back
+    module _ {call : Call} (given : Result Outcome Refusal) (e : Ok call ≡ call_of rate words p f g) where
+      pub taken_answer : (answering : Setup → State Float Held → Answer) {r : Reply}
+          → answer_given given ≡ answering call.setup (block xs st call.carried)
+          → r ≡ reply_of (answer_given given)
+          → r ≡ read fault (reply_of (answering (setup_of rate words) lent)) fault
+      taken_answer answering a r = let c = call_ok e in rw (r, a, c.1, c.0)
+
+      pub taken_leaves : (leaving : Setup → State Float Held → State Float Held) {xs' st' f' : List Float} {p' g' : List ℕ}
+          → block xs' st' (carried call.carried.memories call.carried.progress given) ≡ leaving call.setup (block xs st call.carried)
+          → carried_in p' f' g' ≡ carried (record { positions = p; floats = f }) g given
+          → state xs' st' p' f' g' ≡ read fault (leaving (setup_of rate words) lent) lent
+      taken_leaves leaving {xs'} {st'} l h = let c = call_ok e in ap (block xs' st') h ∙ (rw c.1 at l) ∙ sym (rw c.0)
+
+-- ---- words alone
+pub setup_ok : (rate : ℕ) (words : List ℕ) {setup : Setup} → Ok setup ≡ setup_or_fault rate words → (eqb (words_fault words).number 0 ≡ true) × (setup ≡ setup_of rate words)
+unfolding setup_or_fault
+setup_ok rate words e = read_ok (words_fault words) e
+
+pub setup_err : (rate : ℕ) (words : List ℕ) {other : Reply} → Err other ≡ setup_or_fault rate words → (eqb (words_fault words).number 0 ≡ false) × (other ≡ words_fault words)
+unfolding setup_or_fault
+setup_err rate words e = read_err (words_fault words) (setup_of rate words) e

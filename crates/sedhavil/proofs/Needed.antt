@@ -19,7 +19,6 @@ use Rattle.stage_words.specs.Words.{setup_of}
 use Rattle.sedhavil.specs.declared.Reply.{Reply}
 use Rattle.sedhavil.specs.Call.{reply, reply_of, room_of, fault_rows, fault_of}
 use Rattle.sedhavil.specs.Face.{words_fault, needed_room}
-use Rattle.sedhavil.proofs.Calls.{refused, taken}
 
 -- ---- of an answer with number 5, by a table: rows that would give another number are past
 module _ {A : Type 0} (number : A → ℕ) {other a : A} (h : number a ≡ 5) where
@@ -65,8 +64,8 @@ module _ (rate : ℕ) (words : List ℕ) where
   needed_is h = go (ℕ_discrete fault.number 0)
     where
       go : Dec (fault.number ≡ 0) → (needed_room rate words).floats ≡ needed_of (setup_of rate words)
-      go (yes e) = rw (taken {fault = fault} refl _ _ e) (rw (eq-eqb _ 0 (rw (taken {fault = fault} refl _ _ e) at h)))
-      go (no d) = absurd (d (rw (refused {fault = fault} refl _ _ d) at h))
+      go (yes e) = rw (eq-eqb fault.number 0 e) (rw (eq-eqb _ 0 (rw (eq-eqb fault.number 0 e) at h)))
+      go (no d) = absurd (d (rw (ne_eqb fault.number 0 d) at h))
 
   -- a refusal comes with no floats
   pub refused_empty : ((needed_room rate words).number ≡ 0 → ⊥) → (needed_room rate words).floats ≡ 0
@@ -74,8 +73,8 @@ module _ (rate : ℕ) (words : List ℕ) where
   refused_empty h = go (ℕ_discrete fault.number 0)
     where
       go : Dec (fault.number ≡ 0) → (needed_room rate words).floats ≡ 0
-      go (yes e) = rw (taken {fault = fault} refl _ _ e) (rw (ne_eqb _ 0 (rw (taken {fault = fault} refl _ _ e) at h)))
-      go (no d) = rw (refused {fault = fault} refl _ _ d) (rw (ne_eqb _ 0 d))
+      go (yes e) = rw (eq-eqb fault.number 0 e) (rw (ne_eqb _ 0 (rw (eq-eqb fault.number 0 e) at h)))
+      go (no d) = rw (ne_eqb fault.number 0 d)
 
   -- and never for want of room, since the store that is asked about has the floats needed
   pub never_short : (needed_room rate words).number ≡ 5 → ⊥
@@ -83,5 +82,5 @@ module _ (rate : ℕ) (words : List ℕ) where
   never_short h = go (ℕ_discrete fault.number 0)
     where
       go : Dec (fault.number ≡ 0) → ⊥
-      go (yes e) = room_enough (setup_of rate words) (needed_of (setup_of rate words)) (rw (taken {fault = fault} refl _ _ e) at h)
-      go (no d) = fault_other words (rw (refused {fault = fault} refl _ _ d) at h)
+      go (yes e) = room_enough (setup_of rate words) (needed_of (setup_of rate words)) (rw (eq-eqb fault.number 0 e) at h)
+      go (no d) = fault_other words (rw (ne_eqb fault.number 0 d) at h)

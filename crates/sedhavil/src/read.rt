@@ -1,6 +1,6 @@
 // Reads a call: the chain out of its words, and what it carries along out of the slices that the host lends.
 // What cannot be read is a fault, 101 or 102.
-ghost use Rattle.std.specs.Prelude.{◌≡◌, length, cond, eqb, tt, Ok, Err};
+ghost use Rattle.std.specs.Prelude.{◌≡◌, ◌%◌, length, cond, eqb, Ok, Err};
 ghost use Rattle.theory_tables.specs.Condition.{decide};
 ghost use Rattle.theory_tables.specs.First.{first_of, some};
 ghost use Rattle.stage_words.specs.Words.{word_count, count_of, unknown_at};
@@ -58,6 +58,7 @@ fn check_words(stages: &[u64]) -> Result<(), Reply>
 }
 
 // The call that a host makes on a block, or why it cannot be read.
+#[tactic(auto, unfolding(crate::specs::Read::call_of, crate::specs::Call::fault_of, theory_tables::specs::Rows::first_row))]
 pub(crate) fn read_call(
     rate: u32,
     stages: &[u64],
@@ -81,6 +82,7 @@ pub(crate) fn read_call(
 }
 
 // The chain alone, with nothing lent beside its words, or why it cannot be read.
+#[tactic(auto, unfolding(crate::specs::Read::setup_or_fault, crate::specs::Call::fault_of, theory_tables::specs::Rows::first_row))]
 pub(crate) fn read_setup(rate: u32, stages: &[u64]) -> Result<Setup, Reply>
     ensures { result ≡ setup_or_fault rate stages.now }
 {

@@ -2,6 +2,10 @@
 use Rattle.sedhavil.specs.Call.{reply_of}
 use Rattle.sedhavil.proofs.reply_of.Goals as goal
 
-pub returns : goal.returns
+pub returns-in-Ok : goal.returns-in-Ok
 unfolding reply_of
-returns c = cc
+returns-in-Ok c = rw c.in-Ok.is
+
+pub returns-in-Err : goal.returns-in-Err
+unfolding reply_of
+returns-in-Err c = rw (c.number.ensures, c.place.ensures, c.in-Err.is)

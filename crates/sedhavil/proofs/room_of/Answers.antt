@@ -1,12 +1,12 @@
 -- The test on the number is the definition's. Assumes nothing.
-use borrow.Author.Tests.{eq-eqb, ne_eqb}
+use Rattle.std.proofs.Common.{eq-eqb, ne_eqb}
 use Rattle.sedhavil.specs.Call.{room_of}
 use Rattle.sedhavil.proofs.room_of.Goals as goal
 
-pub returns-then-number-eq0 : goal.returns-then-number-eq0
+pub returns-then-reply-eq0 : goal.returns-then-reply-eq0
 unfolding room_of
-returns-then-number-eq0 c = simp (eq-eqb _ _ c.if-number-eq0.true) (cc)
+returns-then-reply-eq0 c = simp (eq-eqb _ _ c.if-reply-eq0.true) (cc)
 
-pub returns : goal.returns
+pub returns-else-reply-eq0 : goal.returns-else-reply-eq0
 unfolding room_of
-returns c = simp (ne_eqb _ _ c.if-number-eq0.false) (cc)
+returns-else-reply-eq0 c = simp (ne_eqb _ _ c.if-reply-eq0.false) (cc)

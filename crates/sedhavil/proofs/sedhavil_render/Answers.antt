@@ -1,33 +1,31 @@
--- A call that cannot be read is refused; of any other, what `render` promises, of the chain that the words are and of the arrays that hold what was lent. Assumes nothing.
-use mathlib.Core.Path.{sym, ◌∙◌}
-use mathlib.Core.List.{[]}
+-- A call that cannot be read is refused; of any other, what `render` promises, of the chain that the words are and of what was lent. Assumes nothing.
+use Rattle.std.proofs.Common.{[]}
 use Rattle.chain.specs.Run.{answer_on, rendered_of}
 use Rattle.sedhavil.specs.Face.{render_reply, render_leaves}
-use Rattle.sedhavil.proofs.Calls.{refused, block_taken}
+use Rattle.sedhavil.proofs.Calls.{call_err, call_sized, taken_answer, taken_leaves}
 use Rattle.sedhavil.proofs.sedhavil_render.Goals as goal
 
-pub returns-then-fault-ne0-clause-answer : goal.returns-then-fault-ne0-clause-answer
-unfolding render_reply render_leaves
-returns-then-fault-ne0-clause-answer c = c.fault_of-fault.ensures ∙ sym (refused c.fault_of-fault.ensures _ _ c.if-fault-ne0.true)
+pub hand_back-requires-clause-positions : goal.hand_back-requires-clause-positions
+hand_back-requires-clause-positions c = (call_sized _ _ _ _ _ c.in-Ok.ensures).positions_all
 
-pub returns-then-fault-ne0-clause-leaves : goal.returns-then-fault-ne0-clause-leaves
-unfolding render_reply render_leaves
-returns-then-fault-ne0-clause-leaves c = sym (refused c.fault_of-fault.ensures _ _ c.if-fault-ne0.true)
+pub hand_back-requires-clause-floats : goal.hand_back-requires-clause-floats
+hand_back-requires-clause-floats c = (call_sized _ _ _ _ _ c.in-Ok.ensures).floats_all
 
-pub returns-clause-answer : goal.returns-clause-answer
-unfolding render_reply render_leaves
-returns-clause-answer c =
-    let a = c.args in
-    (block_taken a.stages.now a.samples.now a.store.now a.positions.now a.floats.now a.progress.now c.fault_of-fault.ensures c.if-fault-ne0.false
-    (λ setup s. answer_on setup s [])
-    (rendered_of)
-    c.setup_of.ensures c.gathered.ensures c.progress_of.ensures (c.render-outcome.ensures.answer, c.render-outcome.ensures.leaves) c.hand_back.ensures).0
+pub hand_back-requires-clause-progress : goal.hand_back-requires-clause-progress
+hand_back-requires-clause-progress c = (call_sized _ _ _ _ _ c.in-Ok.ensures).progress_all
 
-pub returns-clause-leaves : goal.returns-clause-leaves
-unfolding render_reply render_leaves
-returns-clause-leaves c =
-    let a = c.args in
-    (block_taken a.stages.now a.samples.now a.store.now a.positions.now a.floats.now a.progress.now c.fault_of-fault.ensures c.if-fault-ne0.false
-    (λ setup s. answer_on setup s [])
-    (rendered_of)
-    c.setup_of.ensures c.gathered.ensures c.progress_of.ensures (c.render-outcome.ensures.answer, c.render-outcome.ensures.leaves) c.hand_back.ensures).1
+pub returns-in-Ok-clause-answer : goal.returns-in-Ok-clause-answer
+unfolding render_reply
+returns-in-Ok-clause-answer c = taken_answer _ _ _ _ _ _ _ c.render-given.result c.in-Ok.ensures (λ setup s. answer_on setup s []) c.render-given.ensures.answer c.hand_back.ensures.reply
+
+pub returns-in-Ok-clause-leaves : goal.returns-in-Ok-clause-leaves
+unfolding render_leaves
+returns-in-Ok-clause-leaves c = taken_leaves _ _ _ _ _ _ _ c.render-given.result c.in-Ok.ensures (rendered_of) c.render-given.ensures.leaves c.hand_back.ensures.carried
+
+pub returns-in-Err-clause-answer : goal.returns-in-Err-clause-answer
+unfolding render_reply
+returns-in-Err-clause-answer c = let e = call_err _ _ _ _ _ c.in-Err.ensures in rw (e.1, e.0)
+
+pub returns-in-Err-clause-leaves : goal.returns-in-Err-clause-leaves
+unfolding render_leaves
+returns-in-Err-clause-leaves c = rw (call_err _ _ _ _ _ c.in-Err.ensures).0
