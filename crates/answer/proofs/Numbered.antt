@@ -1,7 +1,5 @@
 -- A call is accepted exactly where its answer has number 0. Assumes nothing.
-use mathlib.Core.Path.{◌≡◌, refl}
-use lib.Dec.{eqb}
-use Rattle.std.specs.Prelude.{Ok, Err}
+use Rattle.std.proofs.Common.{◌≡◌, refl, eqb, Ok, Err}
 use Rattle.answer.specs.declared.Refusal.TheVariants.{Rate, Stages, Shape, Setting, Store, Position}
 use Rattle.answer.specs.declared.Refusal.TheVariants.{Samples, Frames, Progress, Sample, Entry}
 use Rattle.answer.specs.Answer.{Answer, number_of, accepted_of}

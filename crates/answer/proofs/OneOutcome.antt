@@ -1,5 +1,5 @@
 -- Each public function's promise admits one outcome. Assumes nothing.
-use mathlib.Core.Path.{sym, ◌∙◌}
+use Rattle.std.proofs.Common.{sym, ◌∙◌}
 use Rattle.float.proofs.Outcome.{Single}
 use Rattle.answer.proofs.Refusal.number as number
 use Rattle.answer.proofs.Refusal.place as place

@@ -1,8 +1,5 @@
 -- The chain of top stages keeps to its stretches: what crate `theory_order` asks of a chain. Assumes nothing.
-use mathlib.Core.Path.{◌≡◌, refl, ◌∙◌}
-use mathlib.Core.Logic.{◌≢◌}
-use Prim.Native.Nat.{ℕ, suc, ◌<◌}
-use native.Mathlib.Omega.{arith}
+use Rattle.std.proofs.Common.{◌≡◌, refl, ◌∙◌, ◌≢◌, ℕ, suc, ◌<◌, arith}
 use native.Mathlib.Decide.{dec_lt}
 use Rattle.line.specs.Held.{Held}
 use Rattle.line.proofs.Keeps.{Same}

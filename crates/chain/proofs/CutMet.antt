@@ -1,12 +1,7 @@
 -- Demand 3's last sentence: a block may be cut at any frame, both parts are accepted, and `render` shows no cut. Assumes nothing.
-use mathlib.Core.Path.{◌≡◌, refl, sym, ap, ◌∙◌, subst}
-use mathlib.Core.List.{List, [], ◌++◌, append-nil}
-use Prim.Native.Nat.{ℕ, ◌+◌, ◌*◌, ◌%◌, ◌≤◌, ◌<◌}
-use native.Mathlib.Nat.{zero-add}
-use native.Mathlib.Omega.{arith}
-use lib.Ieee.{Float, nan}
-use lib.ListN.{length, get_or, replicate, length-append, get_or-append, get_or-replicate}
-use lib.Seq.{get_or-append-add}
+use Rattle.std.proofs.Common.{◌≡◌, refl, sym, ap, ◌∙◌, subst, List, [], ◌++◌, append-nil, ℕ, ◌+◌, ◌*◌, ◌%◌, ◌≤◌, ◌<◌, zero-add, arith, Float, length, get_or, replicate, length-append, get_or-append-add}
+use Rattle.std.specs.Float.{nan}
+use lib.ListN.{get_or-append, get_or-replicate}
 use Rattle.float.specs.Finite.{finite_of}
 use Rattle.line.specs.Held.{Held}
 use Rattle.theory_order.specs.Chain.{State}

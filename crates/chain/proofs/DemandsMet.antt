@@ -1,10 +1,5 @@
 -- Demands 2 and 3 are met, as specs/Demands.antt states them. Assumes nothing.
-use mathlib.Core.Path.{◌≡◌, sym, ap, ◌∙◌, subst}
-use mathlib.Core.List.{List, [], ◌∷◌}
-use Prim.Native.Nat.{ℕ, suc, ◌*◌, ◌≤◌}
-use native.Mathlib.Omega.{arith}
-use lib.Ieee.{Float}
-use lib.ListN.{length}
+use Rattle.std.proofs.Common.{◌≡◌, sym, ap, ◌∙◌, subst, List, [], ◌∷◌, ℕ, suc, ◌*◌, ◌≤◌, arith, Float, length}
 use Rattle.line.specs.Held.{Held}
 use Rattle.theory_order.specs.Chain.{State, moment, Chain, Out, at, out}
 use Rattle.theory_order.specs.Render.{frames, from}

@@ -1,12 +1,6 @@
 -- A step of a top stage, as the code takes it: where its stretches lie, and that what the code leaves is the step. Assumes nothing.
-use mathlib.Core.Path.{◌≡◌, refl, ap, ◌∙◌}
-use mathlib.Core.List.{List, [], ◌∷◌, ◌++◌}
-use Prim.Native.Nat.{ℕ, zero, suc, ◌+◌, ◌*◌, ◌-◌, ◌≤◌, ◌<◌}
-use native.Mathlib.Omega.{arith}
-use native.Mathlib.Numerals.{add-one}
-use lib.Ieee.{Float, nan}
-use lib.ListN.{length, get_or, set, take, drop}
-use lib.Seq.{get_or-take, get_or-drop}
+use Rattle.std.proofs.Common.{◌≡◌, refl, ap, ◌∙◌, List, [], ◌∷◌, ◌++◌, ℕ, zero, suc, ◌+◌, ◌*◌, ◌-◌, ◌≤◌, ◌<◌, arith, add-one, Float, length, get_or, set, take, drop, get_or-take, get_or-drop}
+use Rattle.std.specs.Float.{nan}
 use Rattle.frame.specs.declared.Frame.{Frame}
 use Rattle.line.specs.Held.{Held, holds, Ran, ran}
 use Rattle.theory_order.specs.Stretch.{part, splice}

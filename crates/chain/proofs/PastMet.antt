@@ -1,13 +1,6 @@
 -- What belongs to no stage never changes, as specs/Past.antt states it: no step changes it, so no order does. Assumes nothing.
-use mathlib.Core.Path.{◌≡◌, refl, sym, ap, ◌∙◌}
-use mathlib.Core.Bool.{Bool, true, false}
-use mathlib.Core.List.{List, [], ◌∷◌}
-use Prim.Native.Nat.{ℕ, suc, ◌+◌, ◌-◌, ◌*◌, ◌≤◌}
-use native.Mathlib.Omega.{arith}
-use borrow.Author.Tests.{eqb-true}
-use lib.Ieee.{Float}
-use lib.ListN.{length, drop, replicate, length-set, length-append, length-replicate, length-drop}
-use lib.Seq.{drop-drop, drop_at, drop-set-lt}
+use Rattle.std.proofs.Common.{◌≡◌, refl, sym, ap, ◌∙◌, Bool, true, false, List, [], ◌∷◌, ℕ, suc, ◌+◌, ◌-◌, ◌*◌, ◌≤◌, arith, eqb-true, Float, length, drop, replicate, length-set, length-append, length-drop, drop-drop, drop_at, drop-set-lt}
+use lib.ListN.{length-replicate}
 use Rattle.line.specs.Held.{Held}
 use Rattle.theory_order.specs.Chain.{State, at, step, put}
 use Rattle.memories.specs.Sizes.{place_positions, place_floats}

@@ -1,10 +1,5 @@
 -- What is known once a call is accepted, and what it leaves then or otherwise. Assumes nothing.
-use mathlib.Core.Path.{◌≡◌, ap, sym}
-use mathlib.Core.Bool.{false}
-use mathlib.Core.List.{List, []}
-use Prim.Native.Nat.{ℕ}
-use lib.Ieee.{Float}
-use lib.ListN.{length}
+use Rattle.std.proofs.Common.{◌≡◌, ap, sym, false, List, [], ℕ, Float, length}
 use Rattle.line.specs.Held.{Held}
 use Rattle.theory_order.specs.Chain.{State}
 use Rattle.stage.specs.declared.setup.Setup.{Setup}

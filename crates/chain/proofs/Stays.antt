@@ -1,14 +1,8 @@
 -- What an accepted block is known to meet still holds after a step that may be taken: so every part of an accepted order is accepted. Assumes nothing.
-use mathlib.Core.Path.{◌≡◌, sym, ap, ◌∙◌, subst}
-use mathlib.Core.Bool.{true}
-use mathlib.Core.List.{List}
-use Prim.Native.Nat.{ℕ, suc, ◌+◌, ◌*◌, ◌-◌, ◌≤◌, ◌<◌}
-use native.Mathlib.Nat.{sub-zero, le_of_eq}
-use native.Mathlib.Omega.{arith}
+use Rattle.std.proofs.Common.{◌≡◌, sym, ap, ◌∙◌, subst, true, List, ℕ, suc, ◌+◌, ◌*◌, ◌-◌, ◌≤◌, ◌<◌, le_of_eq, arith, Float, length, get_or, drop, get_or-drop}
+use Rattle.std.specs.Float.{nan}
+use native.Mathlib.Nat.{sub-zero}
 use native.Mathlib.Decide.{ℕ_discrete}
-use lib.Ieee.{Float, nan}
-use lib.ListN.{length, get_or, drop}
-use lib.Seq.{get_or-drop}
 use Rattle.float.specs.Finite.{finite_of}
 use Rattle.line.specs.Held.{Held, ran}
 use Rattle.theory_order.specs.Stretch.{part}

@@ -1,9 +1,5 @@
 -- Stretches of places that lie apart do not touch one another, in the store, the positions and the floats. Assumes nothing.
-use mathlib.Core.Path.{◌≡◌}
-use mathlib.Core.List.{List}
-use Prim.Native.Nat.{ℕ, ◌+◌, ◌*◌, ◌-◌, ◌≤◌}
-use native.Mathlib.Omega.{arith}
-use lib.ListN.{length}
+use Rattle.std.proofs.Common.{◌≡◌, List, ℕ, ◌+◌, ◌*◌, ◌-◌, ◌≤◌, arith, length}
 use Rattle.line.specs.Held.{Held, holds}
 use Rattle.line.proofs.Keeps.{Same}
 use Rattle.theory_order.specs.Stretch.{splice}

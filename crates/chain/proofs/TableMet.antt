@@ -1,8 +1,6 @@
 -- Demand 1 is met, as specs/Table.antt states it. Assumes nothing.
-use mathlib.Core.Path.{refl, ◌∙◌}
-use native.Mathlib.Omega.{arith}
+use Rattle.std.proofs.Common.{refl, ◌∙◌, arith, length}
 use lib.Ieee.{round, of_bits}
-use lib.ListN.{length}
 use Rattle.float.specs.Literal.{literal}
 use Rattle.memories.specs.Memories.{zero_memories}
 use Rattle.theory_refusals.proofs.TableHolds.{start_by_the_table, by_the_table}

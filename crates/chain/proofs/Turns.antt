@@ -1,13 +1,5 @@
 -- The loops that run an order: what holds at each turn. Assumes nothing.
-use mathlib.Core.Path.{◌≡◌, refl, sym, ◌∙◌}
-use mathlib.Core.Logic.{◌≢◌}
-use mathlib.Core.List.{List, ◌∷◌, ◌++◌}
-use Prim.Native.Nat.{ℕ, zero, suc, ◌+◌, ◌-◌, ◌≤◌, ◌<◌}
-use native.Mathlib.Omega.{arith}
-use native.Mathlib.Numerals.{add-one}
-use lib.Ieee.{Float}
-use lib.ListN.{length, get_or, drop, replicate, drop_of_length-le}
-use lib.Seq.{drop-cons}
+use Rattle.std.proofs.Common.{◌≡◌, refl, sym, ◌∙◌, ◌≢◌, List, ◌∷◌, ◌++◌, ℕ, zero, suc, ◌+◌, ◌-◌, ◌≤◌, ◌<◌, arith, add-one, Float, length, get_or, drop, replicate, drop_of_length-le, drop-cons}
 use Rattle.line.specs.Held.{Held}
 use Rattle.theory_order.specs.Order.{count, run, Allowed}
 use Rattle.theory_order.specs.Chain.{State, at, step, Ok, Inv}

@@ -1,5 +1,5 @@
 -- Each exported function's promise admits one outcome. Assumes nothing.
-use mathlib.Core.Path.{sym, ◌∙◌}
+use Rattle.std.proofs.Common.{sym, ◌∙◌}
 use Rattle.float.proofs.Outcome.{Single}
 use Rattle.compare_effects.proofs.sedhavil_sqrt_f32 as sqrt-f32
 use Rattle.compare_effects.proofs.sedhavil_sqrt_f64 as sqrt-f64

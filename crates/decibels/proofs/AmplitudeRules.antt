@@ -1,12 +1,7 @@
 -- Each entry of the two lists is the float nearest to its power of ten: one test, computed at every entry, and the law of Entry.antt, that makes of it the rule of specs/Nearest.antt of crate `theory_nearest`. Assumes nothing.
-use mathlib.Core.Path.{subst}
-use mathlib.Core.Bool.{false}
-use Prim.Native.Nat.{ℕ, ◌^◌, ◌<◌}
-use lib.Dec.{T, lit<}
-use lib.IntN.{ℤ, pos, negsuc}
-use lib.Signed.{◌≤ℤ◌}
-use lib.ListN.{get_or}
-use lib.Ieee.{nan, binary32, binary64, of_bits}
+use Rattle.std.proofs.Common.{subst, false, ℕ, ◌^◌, ◌<◌, T, lit<, ℤ, pos, negsuc, ◌≤ℤ◌, get_or}
+use Rattle.std.specs.Float.{nan, binary32, binary64}
+use lib.Ieee.{of_bits}
 use Rattle.float.specs.Literal.{literal}
 use Rattle.theory_nearest.specs.Nearest.{Nearest}
 use Rattle.decibels.specs.Amplitude.{amplitudes, eq_amplitudes, amplitude_of, eq_amplitude_of}

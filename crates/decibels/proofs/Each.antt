@@ -1,11 +1,5 @@
 -- A rule that holds at each entry of a list and its place, from one test that antt computes over the list. Assumes nothing.
-use mathlib.Core.Path.{sym, ◌∙◌, subst}
-use mathlib.Core.Bool.{Bool, true, ◌&&◌}
-use mathlib.Core.List.{List, [], ◌∷◌}
-use Prim.Native.Nat.{ℕ, zero, suc, ◌+◌, ◌<◌}
-use native.Mathlib.Nat.{add-zero, zero-add, add-suc, suc-add, le_of_suc-le-suc, not-suc-le-zero}
-use lib.Dec.{T}
-use lib.ListN.{length, get_or}
+use Rattle.std.proofs.Common.{sym, ◌∙◌, subst, Bool, true, ◌&&◌, List, [], ◌∷◌, ℕ, zero, suc, ◌+◌, ◌<◌, add-zero, zero-add, add-suc, suc-add, le_of_suc-le-suc, not-suc-le-zero, T, length, get_or}
 use lib.Ieee.Fits.{and_l, and_r}
 
 -- the test passes at every entry, the first of which is at place i

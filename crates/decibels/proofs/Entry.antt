@@ -1,13 +1,7 @@
 -- An entry of a list is the float nearest to a power of ten, by a test that antt computes. Assumes nothing.
-use mathlib.Core.Path.{◌≡◌, sym, ap, ◌∙◌, subst}
-use mathlib.Core.Logic.{inr}
-use mathlib.Core.Bool.{Bool, false, ◌&&◌}
-use Prim.Native.Nat.{ℕ, suc, ◌+◌, ◌-◌, ◌*◌, ◌/◌, ◌%◌, ◌^◌, ◌≤◌, ◌<◌, min}
-use native.Mathlib.Nat.{le_trans, le_of_eq, le_of_lt, ne_of_lt, mod-lt, div-add-mod', mul-le-mul_right, suc-mul}
-use native.Mathlib.Omega.{arith}
-use lib.Dec.{T, leb, ltb, leb→le, ltb→lt}
-use lib.Pow.{pow_pos}
-use lib.Ieee.{Format, prec, low, hid, ones, of_bits, units}
+use Rattle.std.proofs.Common.{◌≡◌, sym, ap, ◌∙◌, subst, inr, Bool, false, ◌&&◌, ℕ, suc, ◌+◌, ◌-◌, ◌*◌, ◌/◌, ◌%◌, ◌^◌, ◌≤◌, ◌<◌, min, le_trans, le_of_eq, le_of_lt, ne_of_lt, mod-lt, div-add-mod', mul-le-mul_right, suc-mul, arith, T, leb, ltb, leb→le, ltb→lt, pow_pos}
+use Rattle.std.specs.Float.{Format}
+use lib.Ieee.{prec, low, hid, ones, of_bits, units}
 use lib.Ieee.Fits.{and_l, and_r}
 use Rattle.theory_nearest.specs.Nearest.{Nearest}
 use Rattle.theory_nearest.proofs.Kept.{Kept, kept_nearest}

@@ -1,7 +1,7 @@
 -- Values by hand: at -20 decibels, and where the lists begin and end. Assumes nothing.
-use mathlib.Core.Path.{◌≡◌, refl}
-use lib.IntN.{pos, negsuc}
-use lib.Ieee.{nan, binary32, binary64, of_bits, round}
+use Rattle.std.proofs.Common.{◌≡◌, refl, pos, negsuc}
+use Rattle.std.specs.Float.{nan, binary32, binary64}
+use lib.Ieee.{of_bits, round}
 use Rattle.float.specs.Literal.{literal}
 use Rattle.decibels.specs.Amplitude.{amplitude_of, eq_amplitude_of}
 

@@ -1,24 +1,14 @@
 -- From a whole number of decibels to a list's entry, for both functions: `suc b` entries stand below 0 dB and 25 from 0 dB on, so the entry of z decibels is at z + suc b.
 -- The code holds z and the sum as 32 bits, and reads them back: `to_z` and `of_z`. Assumes nothing.
-use mathlib.Core.Path.{◌≡◌, refl, sym, ap, ◌∙◌, subst}
-use mathlib.Core.Bool.{Bool, true, false, cond, false≢true}
-use mathlib.Core.List.{List}
-use Prim.Native.Nat.{ℕ, suc, ◌+◌, ◌-◌, ◌≤◌, ◌<◌}
-use native.Mathlib.Omega.{arith}
-use lib.Dec.{ltb}
-use lib.IntN.{ℤ, pos, negsuc, ◌+ℤ◌}
+use Rattle.std.proofs.Common.{◌≡◌, refl, sym, ap, ◌∙◌, subst, Bool, true, false, cond, List, ℕ, suc, ◌+◌, ◌-◌, ◌≤◌, ◌<◌, arith, ltb, ℤ, pos, negsuc, ◌+ℤ◌, length, get_or, Option, Float, w32, SFits, to_z, of_z, to_z-of_z, ltb-true, ltb-false, lt-ltb, le-ltb}
+use Rattle.std.specs.Float.{nan, Format, binary32, binary64}
+use mathlib.Core.Bool.{false≢true}
 use lib.Signed.{lt_z}
-use lib.ListN.{length, get_or}
 use Rattle.std.specs.List.{slice_get}
-use Rattle.std.proofs.Common.{Option}
 use Rattle.std.specs.Option.{MatchOption}
 use Rattle.std.proofs.lemmas.Option.{slice_get-get_or, slice_get_past}
 use Rattle.decibels.specs.Entry.{entry_at}
-use lib.Ieee.{Float, nan, Format, binary32, binary64, of_bits}
-use mir.Syntax.{w32}
-use mir.Val.{SFits, to_z, of_z}
-use mir.Facts.{to_z-of_z}
-use borrow.Author.Tests.{ltb-true, ltb-false, lt-ltb, le-ltb}
+use lib.Ieee.{of_bits}
 use Rattle.float.specs.Literal.{literal}
 use Rattle.decibels.specs.Amplitude.{amplitudes, eq_amplitudes, amplitude_of, eq_amplitude_of}
 

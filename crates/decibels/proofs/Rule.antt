@@ -1,17 +1,8 @@
 -- From the nearest to 10 ^ i / 10 ^ suc b at each place i of a list to the nearest to 10 ^ (z / j) at each number of decibels z. Assumes nothing.
-use mathlib.Core.Path.{◌≡◌, sym, ap, ◌∙◌, subst}
-use mathlib.Core.Bool.{Bool, false, cond}
-use mathlib.Core.List.{List}
-use Prim.Native.Nat.{ℕ, suc, ◌+◌, ◌-◌, ◌*◌, ◌^◌, ◌≤◌, ◌<◌}
-use native.Mathlib.Nat.{le_trans, le_of_eq, le_of_mul-le-mul_right, one-mul, mul_assoc, mul_right_comm, one-le-pow}
-use native.Mathlib.Omega.{arith}
-use lib.Dec.{leb→le, lit<}
-use lib.Pow.{pow-add}
-use lib.IntN.{ℤ, pos, negsuc}
-use lib.Signed.{◌≤ℤ◌}
-use lib.ListN.{get_or}
-use lib.Ieee.{Float, nan, Format, of_bits}
-use borrow.Author.Tests.{lt-ltb}
+use Rattle.std.proofs.Common.{◌≡◌, sym, ap, ◌∙◌, subst, Bool, false, cond, List, ℕ, suc, ◌+◌, ◌-◌, ◌*◌, ◌^◌, ◌≤◌, ◌<◌, le_trans, le_of_eq, le_of_mul-le-mul_right, one-mul, mul_assoc, mul_right_comm, arith, leb→le, lit<, pow-add, ℤ, pos, negsuc, ◌≤ℤ◌, get_or, Float, lt-ltb}
+use Rattle.std.specs.Float.{nan, Format}
+use native.Mathlib.Nat.{one-le-pow}
+use lib.Ieee.{of_bits}
 use Rattle.theory_nearest.specs.Nearest.{Nearest, Nearer, sum, product}
 use Rattle.theory_nearest.proofs.OtherSign.{of_one_sign}
 use Rattle.decibels.specs.Power.{NearestPower}

@@ -1,6 +1,7 @@
 -- Document 01: "a panning equal to 0 (also -0) returns the frame". Assumes nothing.
-use mathlib.Core.Path.{◌≡◌, refl}
-use lib.Ieee.{binary32, neg, eq, round}
+use Rattle.std.proofs.Common.{◌≡◌, refl}
+use Rattle.std.specs.Float.{binary32}
+use lib.Ieee.{neg, eq, round}
 use Rattle.float.specs.Literal.{literal}
 use Rattle.frame.specs.declared.Frame.{Frame}
 use Rattle.frame.specs.Panning.{panned_of}

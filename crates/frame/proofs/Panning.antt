@@ -1,7 +1,7 @@
 -- The two cases of panning, apart. Assumes nothing.
-use mathlib.Core.Path.{◌≡◌, ap}
-use mathlib.Core.Bool.{Bool, true, false, cond}
-use lib.Ieee.{Float, binary32, sub, mul, eq}
+use Rattle.std.proofs.Common.{◌≡◌, ap, Bool, true, false, cond, Float}
+use Rattle.std.specs.Float.{binary32}
+use lib.Ieee.{sub, mul, eq}
 use Rattle.float.specs.Literal.{literal}
 use Rattle.rounding.specs.Root.{sqrt_of}
 use Rattle.frame.specs.declared.Frame.{Frame}

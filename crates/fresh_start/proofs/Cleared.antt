@@ -1,6 +1,5 @@
 -- All bits of what is cleared are 0. Assumes nothing.
-use Rattle.std.proofs.Common.{◌≡◌, refl, ℕ, List, ◌++◌, drop, replicate}
-use Rattle.std.specs.Prelude.{Float}
+use Rattle.std.proofs.Common.{◌≡◌, refl, ℕ, List, ◌++◌, drop, replicate, Float}
 use Rattle.std.specs.Float.{binary32}
 use Rattle.std.specs.Float.Ieee.{of_bits, round}
 use Rattle.float.specs.Literal.{literal}

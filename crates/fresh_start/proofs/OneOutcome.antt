@@ -1,5 +1,5 @@
 -- The promise of `start` admits one outcome: the answer, the memories, and what it leaves of the store. Assumes nothing.
-use mathlib.Core.Path.{sym, ◌∙◌}
+use Rattle.std.proofs.Common.{sym, ◌∙◌}
 use Rattle.float.proofs.Outcome.{SingleLent}
 use Rattle.fresh_start.proofs.start as start
 

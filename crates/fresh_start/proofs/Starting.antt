@@ -1,9 +1,5 @@
 -- What a fresh start leaves in the store, by the answer. Assumes nothing.
-use mathlib.Core.Path.{◌≡◌}
-use mathlib.Core.Bool.{true, false}
-use mathlib.Core.List.{List}
-use lib.Ieee.{Float}
-use lib.ListN.{length}
+use Rattle.std.proofs.Common.{◌≡◌, true, false, List, Float, length}
 use Rattle.stage.specs.declared.setup.Setup.{Setup}
 use Rattle.line_layout.specs.Layout.{needed_of}
 use Rattle.answer.specs.Answer.{accepted_of}

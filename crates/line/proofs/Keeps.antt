@@ -1,11 +1,5 @@
 -- What is left is as long as what there was: by either of two ways, of two parts, and of a line of frames. Assumes nothing.
-use mathlib.Core.Path.{◌≡◌, refl, ap}
-use mathlib.Core.Bool.{Bool, true, false, cond}
-use mathlib.Core.List.{List, ◌++◌}
-use Prim.Native.Nat.{ℕ}
-use native.Mathlib.Omega.{arith}
-use lib.Ieee.{Float}
-use lib.ListN.{length, take, drop, length-set, length-append, take-append-drop}
+use Rattle.std.proofs.Common.{◌≡◌, refl, ap, Bool, true, false, cond, List, ◌++◌, ℕ, arith, Float, length, take, drop, length-set, length-append, take-append-drop}
 use Rattle.frame.specs.declared.Frame.{Frame}
 use Rattle.line.specs.Held.{Held, front, back, joined, Ran}
 use Rattle.line.specs.Frames.{frame_in}

@@ -1,10 +1,6 @@
 -- What a slice is once what follows its front was lent and is back; also where its front came back changed before that. Assumes nothing.
-use mathlib.Core.Path.{◌≡◌, ap, ◌∙◌}
-use mathlib.Core.List.{List, ◌++◌, append-nil}
-use Prim.Native.Nat.{ℕ, ◌-◌}
-use native.Mathlib.Omega.{arith}
-use lib.ListN.{length, set, take, drop, length-drop, drop_of_length-le}
-use lib.Seq.{take_at, drop_at, take-set-lt, drop-set-lt}
+use Rattle.std.proofs.Common.{◌≡◌, ap, ◌∙◌, List, ◌++◌, append-nil, ℕ, ◌-◌, arith, length, set, take, drop, length-drop, drop_of_length-le, take_at, drop_at, drop-set-lt}
+use lib.Seq.{take-set-lt}
 use borrow.Author.Rules.{part_to_end}
 
 -- what follows the first n of xs, as it is lent, and xs once that is back as zs

@@ -1,5 +1,5 @@
 -- Each public function's promise admits one outcome, in what it gives and in what it leaves of what it was lent. Assumes nothing.
-use mathlib.Core.Path.{refl, sym, ◌∙◌}
+use Rattle.std.proofs.Common.{refl, sym, ◌∙◌}
 use Rattle.float.proofs.Outcome.{Single, SingleLent}
 use Rattle.line.proofs.position as position
 use Rattle.line.proofs.comb as comb

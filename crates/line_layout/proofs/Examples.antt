@@ -1,9 +1,5 @@
 -- The edges of lines, worked out by antt on the definitions. Assumes nothing.
-use mathlib.Core.Path.{◌≡◌, refl}
-use mathlib.Core.Bool.{true, false}
-use mathlib.Core.List.{List}
-use Prim.Native.Nat.{ℕ}
-use lib.ListN.{set, replicate}
+use Rattle.std.proofs.Common.{◌≡◌, refl, true, false, List, ℕ, set, replicate}
 use Rattle.reverb_tuning.specs.Tuning.{reverb_lines}
 use Rattle.theory_tables.specs.First.{first_from}
 use Rattle.theory_tables.specs.Condition.{decide}

@@ -1,7 +1,5 @@
 -- No stage has more lines than a place has positions. Assumes nothing.
-use Prim.Native.Nat.{ℕ, ◌≤◌}
-use native.Mathlib.Omega.{arith}
-use lib.ListN.{length}
+use Rattle.std.proofs.Common.{ℕ, ◌≤◌, arith, length}
 use Rattle.reverb_tuning.proofs.Tunings.{lines_length}
 use Rattle.memories.specs.Sizes.{place_positions}
 use Rattle.stage.specs.declared.kind.Stage.{Stage}

@@ -1,5 +1,5 @@
 -- Each public function's promise admits one outcome. `size_between` and `is_lost` are lent a list by `&`, which they cannot change, so there too a caller sees the result and nothing else. Assumes nothing.
-use mathlib.Core.Path.{sym, ◌∙◌}
+use Rattle.std.proofs.Common.{sym, ◌∙◌}
 use Rattle.float.proofs.Outcome.{Single}
 use Rattle.line_layout.proofs.layout as layout
 use Rattle.line_layout.proofs.lines as lines

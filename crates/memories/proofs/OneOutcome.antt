@@ -1,5 +1,5 @@
 -- Each public function's promise admits one outcome: what it gives, and what `keep` leaves of the floats. Assumes nothing.
-use mathlib.Core.Path.{sym, ◌∙◌}
+use Rattle.std.proofs.Common.{sym, ◌∙◌}
 use Rattle.float.proofs.Outcome.{Single, SingleLent}
 use Rattle.memories.proofs.zero as zero
 use Rattle.memories.proofs.recall as recall

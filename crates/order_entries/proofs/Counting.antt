@@ -1,14 +1,6 @@
 -- The check of an order, entry by entry: an entry is stuck exactly where it breaks a rule, and the loop that counts progress and looks for the first such entry. Assumes nothing.
-use mathlib.Core.Path.{◌≡◌, refl, ap, sym, ◌∙◌}
-use mathlib.Core.Bool.{Bool, true, false, cond, ◌||◌, true≢false}
-use mathlib.Core.List.{List, ◌∷◌}
-use Prim.Native.Nat.{ℕ, ◌+◌, ◌-◌, ◌<◌}
-use native.Mathlib.Omega.{arith}
-use native.Mathlib.Nat.{lt_of_not-le}
-use native.Mathlib.Numerals.{add-one}
-use lib.ListN.{length, get_or, take, drop, length-drop}
-use lib.Seq.{take-suc, get_or-drop, drop-drop}
-use Rattle.std.specs.Prelude.{Result, Ok, Err, ⊤}
+use Rattle.std.proofs.Common.{◌≡◌, refl, ap, sym, ◌∙◌, Bool, true, false, cond, ◌||◌, true≢false, List, ◌∷◌, ℕ, ◌+◌, ◌-◌, ◌<◌, arith, lt_of_not-le, add-one, length, get_or, take, drop, length-drop, take-suc, get_or-drop, drop-drop, Result, Ok, Err}
+use Rattle.std.specs.Prelude.{⊤}
 use Rattle.std.specs.Result.{is_err}
 use Rattle.theory_order.specs.Order.{run}
 use Rattle.theory_order.proofs.Orders.{run_append}

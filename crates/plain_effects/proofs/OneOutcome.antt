@@ -1,5 +1,5 @@
 -- Each public function's promise admits one outcome. Assumes nothing.
-use mathlib.Core.Path.{sym, ◌∙◌}
+use Rattle.std.proofs.Common.{sym, ◌∙◌}
 use Rattle.float.proofs.Outcome.{Single}
 use Rattle.plain_effects.proofs.volume_control.process as volume
 use Rattle.plain_effects.proofs.panning_control.process as panning

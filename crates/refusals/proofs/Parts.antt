@@ -1,12 +1,6 @@
 -- A table in parts, each answered by itself. Where a part refuses, its answer is the whole table's; where it accepts, none of its rows applies, and what is left of the table has the answer of the whole. Assumes nothing.
-use mathlib.Core.Path.{◌≡◌, refl, ap, sym, ◌∙◌}
-use mathlib.Core.Bool.{true}
-use mathlib.Core.List.{List}
-use Prim.Native.Nat.{ℕ, ◌<◌}
-use native.Mathlib.Omega.{arith}
-use lib.ListN.{take, drop, take-append-drop}
-use borrow.Author.Tests.{eqb-true, eqb-false}
-use Rattle.std.specs.Prelude.{Err}
+use Rattle.std.proofs.Common.{◌≡◌, refl, ap, sym, ◌∙◌, true, List, ℕ, ◌<◌, arith, take, drop, take-append-drop, eqb-true, Err}
+use borrow.Author.Tests.{eqb-false}
 use Rattle.theory_tables.specs.Rows.{Row, NoRow, first_row}
 use Rattle.theory_tables.proofs.Tables.{Numbered, no_row, first_passed, first_refused}
 use Rattle.theory_tables.proofs.Tested.{Gives}

@@ -1,11 +1,6 @@
 -- The first sample of the frames that top stage 0 has not run: with no stage and with one. Assumes nothing.
-use mathlib.Core.Path.{◌≡◌}
-use mathlib.Core.List.{List}
-use Prim.Native.Nat.{ℕ, ◌*◌, ◌≤◌, ◌<◌}
+use Rattle.std.proofs.Common.{◌≡◌, List, ℕ, ◌*◌, ◌≤◌, ◌<◌, arith, get_or, eq-eqb, ne_eqb}
 use native.Mathlib.Decide.{ℕ_discrete}
-use native.Mathlib.Omega.{arith}
-use lib.ListN.{get_or}
-use borrow.Author.Tests.{eq-eqb, ne_eqb}
 use Rattle.refusals.specs.Refusals.{unrun_from}
 
 module _ (tops : ℕ) (progress : List ℕ) where

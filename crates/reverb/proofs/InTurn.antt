@@ -1,12 +1,8 @@
 -- Lines one after another, as a loop runs them: some are done, and the others are still to run on what is left of each stretch. Assumes nothing.
-use mathlib.Core.Path.{◌≡◌, refl, sym, ap, ◌∙◌}
-use mathlib.Core.List.{List, [], append_assoc}
-use Prim.Native.Nat.{ℕ, ◌+◌, ◌≤◌, ◌<◌}
-use native.Mathlib.Numerals.{add-one}
-use native.Mathlib.Omega.{arith}
-use lib.Ieee.{Float, nan, binary32, add}
-use lib.ListN.{length, get_or, set, take, drop, drop_of_length-le, length-drop, length-set, take-append-drop}
-use lib.Seq.{length-take-le, slice, drop-cons, get_or-take}
+use Rattle.std.proofs.Common.{◌≡◌, refl, sym, ap, ◌∙◌, List, [], append_assoc, ℕ, ◌+◌, ◌≤◌, ◌<◌, add-one, arith, Float, length, get_or, set, take, drop, drop_of_length-le, length-drop, length-set, take-append-drop, length-take-le, drop-cons, get_or-take}
+use Rattle.std.specs.Float.{nan, binary32}
+use lib.Ieee.{add}
+use lib.Seq.{slice}
 use borrow.Rule.Slice.PartMut.{put_mid, set_mid_at}
 use Rattle.std.proofs.lemmas.List.{drop-drop, get_or-drop}
 use Rattle.std.specs.List.{sum}

@@ -1,9 +1,5 @@
 -- What a reverb leaves, and each line of it, is as long as what it had, whatever that was. Assumes nothing.
-use mathlib.Core.Path.{refl}
-use mathlib.Core.List.{List, [], ◌∷◌}
-use Prim.Native.Nat.{ℕ}
-use lib.Ieee.{Float}
-use lib.ListN.{length-set}
+use Rattle.std.proofs.Common.{refl, List, [], ◌∷◌, ℕ, Float, length-set}
 use Rattle.line.specs.AllPass.{pass_line_of}
 use Rattle.line.specs.Comb.{comb_line_of}
 use Rattle.line.specs.Held.{Held}

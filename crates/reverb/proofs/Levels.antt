@@ -1,11 +1,7 @@
 -- The reverb's definition, one level at a time. To unfold `reverb_of` opens all that it stands on; to rewrite by these opens one level and leaves the others shut. Assumes nothing.
-use mathlib.Core.Path.{◌≡◌, refl}
-use mathlib.Core.Bool.{Bool, ◌&&◌, cond}
-use mathlib.Core.List.{List}
-use Prim.Native.Nat.{ℕ}
-use lib.Dec.{leb}
-use lib.Ieee.{Float, binary32, add, mul}
-use lib.ListN.{length, take, drop}
+use Rattle.std.proofs.Common.{◌≡◌, refl, Bool, ◌&&◌, cond, List, ℕ, leb, Float, length, take, drop}
+use Rattle.std.specs.Float.{binary32}
+use lib.Ieee.{add, mul}
 use Rattle.std.specs.List.{sum}
 use Rattle.float.specs.Literal.{literal}
 use Rattle.frame.specs.declared.Frame.{Frame}

@@ -1,5 +1,5 @@
 -- The public function's promise admits one outcome, in what it gives and in what it leaves of what it was lent. Assumes nothing.
-use mathlib.Core.Path.{sym, ◌∙◌}
+use Rattle.std.proofs.Common.{sym, ◌∙◌}
 use Rattle.float.proofs.Outcome.{SingleLent}
 use Rattle.line.specs.Held.{holds}
 use Rattle.reverb.proofs.process as process

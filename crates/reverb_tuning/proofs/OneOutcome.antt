@@ -1,5 +1,5 @@
 -- Each public function's promise admits one outcome. Assumes nothing.
-use mathlib.Core.Path.{sym, ◌∙◌}
+use Rattle.std.proofs.Common.{sym, ◌∙◌}
 use Rattle.float.proofs.Outcome.{Single}
 use Rattle.reverb_tuning.proofs.line_length as line-length
 use Rattle.reverb_tuning.proofs.reverb_line as reverb-line

@@ -1,5 +1,5 @@
 -- The public function's promise admits one outcome. It is lent two slices by `&`, which it cannot change, so a caller sees the result and nothing else. Assumes nothing.
-use mathlib.Core.Path.{sym, ◌∙◌}
+use Rattle.std.proofs.Common.{sym, ◌∙◌}
 use Rattle.float.proofs.Outcome.{Single}
 use Rattle.same_slices.proofs.floats as floats
 

@@ -1,12 +1,6 @@
 -- `sedhavil_floats_needed` gives where the lines of all stages end, and no floats where it refuses; and it never refuses for want of room. Assumes nothing.
-use mathlib.Core.Path.{◌≡◌, refl}
-use mathlib.Core.Logic.{⊎_elim}
-use mathlib.Core.List.{List, [], ◌∷◌}
-use Prim.Native.Nat.{ℕ}
-use native.Mathlib.Omega.{arith}
+use Rattle.std.proofs.Common.{◌≡◌, refl, ⊎_elim, List, [], ◌∷◌, ℕ, arith, ltb, eq-eqb, ne_eqb, ltb-true}
 use native.Mathlib.Decide.{ℕ_discrete}
-use lib.Dec.{ltb}
-use borrow.Author.Tests.{eq-eqb, ne_eqb, ltb-true}
 use Rattle.theory_tables.specs.Rows.{Row, place_in}
 use Rattle.theory_tables.proofs.Bools.{true_or_false}
 use Rattle.theory_tables.proofs.Tested.{Gives, row_hit, row_pass, row_none}

@@ -1,5 +1,5 @@
 -- Each exported function's promise admits one outcome: the answer, and all that it leaves. Assumes nothing.
-use mathlib.Core.Path.{sym, ◌∙◌}
+use Rattle.std.proofs.Common.{sym, ◌∙◌}
 use Rattle.float.proofs.Outcome.{Single, SingleLent}
 use Rattle.line.specs.Held.{holds}
 use Rattle.chain.specs.Chain.{state}

@@ -1,6 +1,5 @@
 -- The fault of a call is the table's: each row's answer has the row's number and place, and the rest is the law of a table. Assumes nothing.
-use mathlib.Core.Path.{refl}
-use native.Mathlib.Omega.{arith}
+use Rattle.std.proofs.Common.{refl, arith}
 use Rattle.theory_tables.proofs.Tables.{by_the_table}
 use Rattle.sedhavil.specs.Call.{fault_of, FaultTabled}
 

@@ -1,5 +1,5 @@
 -- Each exported function's promise admits one outcome: the answer, and what is left of what was lent. Assumes nothing.
-use mathlib.Core.Path.{sym, ◌∙◌}
+use Rattle.std.proofs.Common.{sym, ◌∙◌}
 use Rattle.float.proofs.Outcome.{Single, SingleLent}
 use Rattle.sedhavil_wav.proofs.sedhavil_wav_header as wav-header
 use Rattle.sedhavil_wav.proofs.sedhavil_wav_frames_in as frames-in

@@ -1,10 +1,5 @@
 -- `with` adds a stage, as specs/Added.antt states it. Assumes nothing.
-use mathlib.Core.Path.{◌≡◌, refl, ap}
-use Prim.Native.Nat.{◌≤◌, ◌<◌}
-use native.Mathlib.Omega.{arith}
-use lib.ListN.{length}
-use lib.Seq.{get_or-set_same, get_or-set_other}
-use borrow.Author.Tests.{lt-ltb, le-ltb}
+use Rattle.std.proofs.Common.{◌≡◌, refl, ap, ◌≤◌, ◌<◌, arith, length, get_or-set_same, get_or-set_other, lt-ltb, le-ltb}
 use Rattle.memories.specs.Sizes.{places}
 use Rattle.stage.specs.declared.kind.Stage.{Stage}
 use Rattle.stage.specs.declared.setup.Slot.{Slot}

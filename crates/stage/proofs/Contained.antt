@@ -1,16 +1,10 @@
 -- What std's `contains` tells at a range `low..=high`, in the words of specs/Range.antt. Assumes nothing.
-use mathlib.Core.Path.{◌≡◌, refl}
-use mathlib.Core.Bool.{Bool, true, false, cond, ◌||◌}
-use Prim.Native.Nat.{ℕ}
-use lib.Dec.{leb}
-use lib.Ieee.{Float, le, lt, eq}
-use Rattle.std.specs.Prelude.{Some, None}
+use Rattle.std.proofs.Common.{◌≡◌, refl, Bool, true, false, cond, ◌||◌, ℕ, leb, Float, Some, None, arith, ℤ}
+use lib.Ieee.{le, lt, eq}
 use Rattle.std.specs.declared.cmp.Ordering.TheVariants.{Less, Equal, Greater}
 use Rattle.std.specs.Ordering.{partial_le, float_partial_cmp, is_some_and, is_le, nat_cmp, int_cmp}
-use Rattle.std.proofs.Common.{arith}
 use Rattle.std.proofs.lemmas.Bool.Decides.{nat_tests}
 use Rattle.std.proofs.lemmas.Int.{ints}
-use lib.IntN.{ℤ}
 use lib.Signed.{le_z}
 
 pub float_le : (x y : Float) → partial_le float_partial_cmp x y ≡ le x y

@@ -1,9 +1,7 @@
 -- The edges of document 01's table of settings, and of the place after a delay, worked out by antt on the definitions. Assumes nothing.
-use mathlib.Core.Path.{◌≡◌, refl}
-use mathlib.Core.Bool.{Bool, true, false}
-use Prim.Native.Nat.{ℕ, ◌+◌, ◌-◌, ◌^◌}
-use lib.IntN.{ℤ, pos, negsuc}
-use lib.Ieee.{Float, nan, fin, binary32, binary64, le}
+use Rattle.std.proofs.Common.{◌≡◌, refl, Bool, true, false, ℕ, ◌+◌, ◌-◌, ◌^◌, ℤ, pos, negsuc, Float}
+use Rattle.std.specs.Float.{nan, binary32, binary64}
+use lib.Ieee.{fin, le}
 use Rattle.float.specs.Literal.{literal}
 use Rattle.float.specs.Finite.{finite_of}
 use Rattle.plain_effects.specs.declared.distortion.DistortionKind.TheVariants.{HardClip}

@@ -1,11 +1,5 @@
 -- Laws of a list by its places, and of a loop that fills it, place after place. Assumes nothing.
-use mathlib.Core.Path.{◌≡◌, refl, ap, sym, ◌∙◌}
-use mathlib.Core.List.{List, ◌∷◌, ◌++◌}
-use Prim.Native.Nat.{ℕ, zero, suc, ◌+◌, ◌<◌}
-use native.Mathlib.Omega.{arith}
-use lib.ListN.{length, get_or, set}
-use lib.Seq.{get_or-set_same, get_or-set_other, ext_get_or}
-use borrow.Author.Count.{below_more}
+use Rattle.std.proofs.Common.{◌≡◌, refl, ap, sym, ◌∙◌, List, ◌∷◌, ◌++◌, ℕ, zero, suc, ◌+◌, ◌<◌, arith, length, get_or, set, get_or-set_same, get_or-set_other, ext_get_or, below_more}
 use Rattle.stage.specs.Listed.{list_from, list_of}
 
 module _ {A : Type 0} (f : ℕ → A) where

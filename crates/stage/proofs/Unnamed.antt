@@ -1,7 +1,5 @@
 -- The kinds that a `match` does not name: but for a reverb and a delay none holds anything. Assumes nothing.
-use Rattle.std.proofs.Common.{◌≡◌, ℕ, refl}
-use lib.IntN.{ℤ}
-use lib.Ieee.{Float}
+use Rattle.std.proofs.Common.{◌≡◌, ℕ, refl, ℤ, Float}
 use Rattle.stage.specs.declared.kind.Stage.{Stage}
 use Rattle.stage.specs.declared.kind.Stage.TheVariants.{VolumeControl, PanningControl, Distortion, Filter, EqFilter, Reverb, Delay}
 use Rattle.stage.specs.declared.kind.Lines.TheVariants.{NoLines}

@@ -1,11 +1,7 @@
 -- What a slice is once its front, or what follows it, was lent and is back, where the front is as long as is asked, or shorter where the slice is. Assumes nothing.
-use mathlib.Core.Path.{◌≡◌, refl, ap, ◌∙◌}
-use mathlib.Core.List.{List, [], ◌∷◌, ◌++◌}
-use Prim.Native.Nat.{ℕ, zero, suc, ◌-◌, ◌<◌, min}
+use Rattle.std.proofs.Common.{◌≡◌, refl, ap, ◌∙◌, List, [], ◌∷◌, ◌++◌, ℕ, zero, suc, ◌-◌, ◌<◌, min, arith, length, set, take, drop, length-take, length-drop, drop_of_length-le, take_all, take_at, drop_at}
 use native.Mathlib.Decide.{dec_lt}
-use native.Mathlib.Omega.{arith}
-use lib.ListN.{length, set, take, drop, length-take, length-drop, drop_of_length-le}
-use lib.Seq.{take_all, take-length, drop-length, take_at, drop_at}
+use lib.Seq.{take-length, drop-length}
 use Rattle.line.proofs.Lent.{lent, home, home_again, rest_lent, rest_home}
 
 -- to take or drop as many as there are is to take or drop all

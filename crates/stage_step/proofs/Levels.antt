@@ -1,9 +1,5 @@
 -- The definitions, one level at a time. To unfold `span_of` opens all that it stands on; to rewrite by these opens one level and leaves the others shut. Assumes nothing.
-use mathlib.Core.Path.{◌≡◌, refl}
-use mathlib.Core.Bool.{cond, ◌&&◌}
-use mathlib.Core.List.{List}
-use Prim.Native.Nat.{ℕ, zero, suc, ◌+◌, ◌-◌}
-use lib.Dec.{ltb, leb}
+use Rattle.std.proofs.Common.{◌≡◌, refl, cond, ◌&&◌, List, ℕ, zero, suc, ◌+◌, ◌-◌, ltb, leb}
 use Rattle.line.specs.Held.{Ran}
 use Rattle.memories.specs.Sizes.{places}
 use Rattle.stage.specs.declared.setup.Setup.{Setup}

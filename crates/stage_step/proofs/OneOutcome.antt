@@ -1,5 +1,5 @@
 -- The promise of `place::process` admits one outcome: the frame that it gives, and what it leaves of the three stretches. Assumes nothing.
-use mathlib.Core.Path.{sym, ◌∙◌}
+use Rattle.std.proofs.Common.{sym, ◌∙◌}
 use Rattle.float.proofs.Outcome.{SingleLent}
 use Rattle.line.specs.Held.{holds}
 use Rattle.stage_step.proofs.place as place

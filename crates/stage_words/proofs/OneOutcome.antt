@@ -1,5 +1,5 @@
 -- Each public function's promise admits one outcome. `first_unknown` and `setup_of` are lent the words by `&`, which they cannot change, so a caller sees the result and nothing else. Assumes nothing.
-use mathlib.Core.Path.{sym, ◌∙◌}
+use Rattle.std.proofs.Common.{sym, ◌∙◌}
 use Rattle.float.proofs.Outcome.{Single}
 use Rattle.stage_words.proofs.layout_version as layout-version
 use Rattle.stage_words.proofs.first_unknown as first-unknown

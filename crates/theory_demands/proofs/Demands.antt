@@ -1,9 +1,6 @@
 -- The three demands, in the user's words, each closed by the name of its proof. The statements are definitions: of crate `stage` (specs/Added.antt); of crate `chain` (specs/Table.antt, specs/Demands.antt, specs/Past.antt), about what its public functions answer and leave; of crate `theory_refusals` (specs/TopStages.antt); of crate `theory_whole_steps` (specs/WholeSteps.antt), about what an accepted step is; those of square root and narrowing are of crate `theory_nearest` (specs/Ieee754.antt, specs/Nearest.antt), and those of amplitudes of crate `decibels` (specs/Power.antt). Assumes nothing.
-use Prim.Native.Nat.{ℕ}
-use mathlib.Core.Bool.{Bool}
-use lib.IntN.{ℤ, pos, negsuc}
-use lib.Signed.{◌≤ℤ◌}
-use lib.Ieee.{Float, Format, binary32, binary64}
+use Rattle.std.proofs.Common.{ℕ, Bool, ℤ, pos, negsuc, ◌≤ℤ◌, Float}
+use Rattle.std.specs.Float.{Format, binary32, binary64}
 use Rattle.theory_nearest.specs.Nearest.{Nearest, TheNearest}
 use Rattle.theory_nearest.specs.Ieee754.{SquareRoot, Narrowing}
 use Rattle.rounding.specs.Root.{sqrt_of}

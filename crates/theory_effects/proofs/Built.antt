@@ -1,11 +1,6 @@
 -- What a list place holds is held by an effect: lines, sides of a reverb, frames and spare memories, built from stretches of the right sizes. Assumes nothing.
-use mathlib.Core.Path.{◌≡◌, refl, ap, sym, ◌∙◌}
-use mathlib.Core.List.{List, [], ◌∷◌, ◌++◌, map, append-nil}
-use Prim.Native.Nat.{ℕ, zero, suc, ◌+◌, ◌*◌, ◌<◌}
-use native.Mathlib.Omega.{arith}
-use lib.Ieee.{Float}
-use lib.ListN.{length, get_or, take, drop, length-take, length-drop, length-map, take-append-drop, drop_of_length-le}
-use lib.Seq.{length-take-le, take_all, drop-cons, get_or-take, get_or-drop, take_at, drop_at}
+use Rattle.std.proofs.Common.{◌≡◌, refl, ap, sym, ◌∙◌, List, [], ◌∷◌, ◌++◌, map, append-nil, ℕ, zero, suc, ◌+◌, ◌*◌, ◌<◌, arith, Float, length, get_or, take, drop, length-take, length-drop, take-append-drop, drop_of_length-le, length-take-le, take_all, drop-cons, get_or-take, get_or-drop, take_at, drop_at}
+use lib.ListN.{length-map}
 use Rattle.frame.specs.declared.Frame.{Frame}
 use Rattle.integrators.specs.declared.Integrators.{Integrators}
 use Rattle.line.specs.Held.{Held, holds, front, back, joined}

@@ -1,7 +1,6 @@
 -- How deep effects stand inside one another: an effect alone is one level, a delay one more than its feedback effects.
 -- Assumes nothing.
-use Prim.Native.Nat.{ℕ, zero, suc, max, ◌≤◌}
-use native.Mathlib.Omega.{arith}
+use Rattle.std.proofs.Common.{ℕ, zero, suc, max, ◌≤◌, arith}
 use Rattle.theory_effects.specs.Effects.{Effect, volume_control, panning_control, distortion, filter, eq_filter, reverb, delay}
 use Rattle.theory_effects.specs.Effects.{Effects, none, next}
 

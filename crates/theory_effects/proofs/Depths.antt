@@ -1,10 +1,5 @@
 -- Effects that stand in a list without a faulty stage have four levels at most: depths 0 to 3. Assumes nothing.
-use mathlib.Core.Path.{◌≡◌, ap}
-use mathlib.Core.List.{◌++◌}
-use Prim.Native.Nat.{ℕ, suc, ◌+◌, ◌-◌, ◌≤◌, ◌<◌}
-use native.Mathlib.Omega.{arith}
-use native.Mathlib.Numerals.{add-one}
-use lib.ListN.{length, length-append}
+use Rattle.std.proofs.Common.{◌≡◌, ap, ◌++◌, ℕ, suc, ◌+◌, ◌-◌, ◌≤◌, ◌<◌, arith, add-one, length, length-append}
 use Rattle.stage.specs.declared.kind.Stage.{Stage}
 use Rattle.stage.specs.declared.setup.Setup.{Setup}
 use Rattle.stage.specs.Holding.{holding_of, owned_of}

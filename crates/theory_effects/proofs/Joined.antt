@@ -1,10 +1,5 @@
 -- Parts of what is held, joined and taken apart again. Assumes nothing.
-use mathlib.Core.Path.{◌≡◌}
-use mathlib.Core.List.{[], append-nil, append_assoc}
-use Prim.Native.Nat.{ℕ, ◌+◌}
-use native.Mathlib.Omega.{arith}
-use lib.ListN.{length, length-append}
-use lib.Seq.{take_at, drop_at}
+use Rattle.std.proofs.Common.{◌≡◌, [], append-nil, append_assoc, ℕ, ◌+◌, arith, length, length-append, take_at, drop_at}
 use Rattle.line.specs.Held.{Held, holds, front, back, joined}
 
 -- so many floats of the store, positions and floats

@@ -1,6 +1,5 @@
 -- A frame through effects changes no setting and no length: they stand in the list as before, and are as whole as before. Assumes nothing.
-use mathlib.Core.Path.{◌≡◌, refl}
-use Prim.Native.Nat.{ℕ}
+use Rattle.std.proofs.Common.{◌≡◌, refl, ℕ}
 use Rattle.frame.specs.declared.Frame.{Frame}
 use Rattle.theory_effects.specs.Effects.{Spare, Effect, volume_control, panning_control, distortion, filter, eq_filter, reverb, delay, Effects, none, next}
 use Rattle.theory_effects.specs.Process.{process, process_all}

@@ -1,12 +1,7 @@
 -- A line in three parts, as one list with a position on it: what is read at the position, what is stored there, and where the position goes. Also of a line of frames in a list of floats. Assumes nothing.
-use mathlib.Core.Path.{◌≡◌, refl, sym, ap, ◌∙◌}
-use mathlib.Core.List.{List, [], ◌∷◌, ◌++◌, append_assoc}
-use Prim.Native.Nat.{◌+◌, ◌*◌, ◌≤◌, ◌<◌}
-use native.Mathlib.Omega.{arith}
-use lib.ListN.{length, get_or, set, length-append, length-set}
+use Rattle.std.proofs.Common.{◌≡◌, refl, sym, ap, ◌∙◌, List, [], ◌∷◌, ◌++◌, append_assoc, ◌+◌, ◌*◌, ◌≤◌, ◌<◌, arith, length, get_or, set, length-append, length-set, Float, lt-ltb, le-ltb}
+use Rattle.std.specs.Float.{nan}
 use lib.Seq.{get_or-append_seam, set-append_seam, get_or_at, set_at}
-use lib.Ieee.{Float, nan}
-use borrow.Author.Tests.{lt-ltb, le-ltb}
 use Rattle.frame.specs.declared.Frame.{Frame}
 use Rattle.line.specs.Position.{next_position}
 use Rattle.line.specs.Frames.{frame_at, frame_in}

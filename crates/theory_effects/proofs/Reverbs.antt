@@ -1,12 +1,8 @@
 -- One frame through a reverb that has all of its lines is what kira's lines, sides and reverb make of it, each with what it alone holds. Assumes nothing.
-use mathlib.Core.Path.{◌≡◌, refl, sym, ap, ◌∙◌}
-use mathlib.Core.Bool.{true}
-use mathlib.Core.List.{List, [], ◌∷◌, map}
-use Prim.Native.Nat.{ℕ, ◌*◌, ◌≤◌}
-use native.Mathlib.Omega.{arith}
-use lib.Ieee.{Float, nan, binary32, add, mul}
-use lib.ListN.{length, take, drop, length-map, length-take, length-drop}
-use borrow.Author.Tests.{le-leb}
+use Rattle.std.proofs.Common.{◌≡◌, refl, sym, ap, ◌∙◌, true, List, [], ◌∷◌, map, ℕ, ◌*◌, ◌≤◌, arith, Float, length, take, drop, length-take, length-drop, le-leb}
+use Rattle.std.specs.Float.{nan, binary32}
+use lib.Ieee.{add, mul}
+use lib.ListN.{length-map}
 use Rattle.float.specs.Literal.{literal}
 use Rattle.frame.specs.declared.Frame.{Frame}
 use Rattle.frame.specs.Mix.{mix_of}

@@ -1,9 +1,5 @@
 -- The lengths of the lines of a reverb's side, as the definitions of a step have them and as kira has them. Assumes nothing.
-use mathlib.Core.Path.{◌≡◌}
-use mathlib.Core.List.{List, map}
-use Prim.Native.Nat.{ℕ}
-use lib.Ieee.{Float}
-use lib.ListN.{length, take, drop}
+use Rattle.std.proofs.Common.{◌≡◌, List, map, ℕ, Float, length, take, drop}
 use Rattle.reverb_tuning.specs.Tuning.{side_combs, side_lines, length_of, reverb_lines}
 use Rattle.theory_effects.specs.Line.{Line, buffer}
 use Rattle.theory_effects.specs.Effects.{Comb, Side}

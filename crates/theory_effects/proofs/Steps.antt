@@ -1,15 +1,7 @@
 -- A step of the definitions is a frame through the effects: no guard is met. Assumes nothing.
 -- The effects stand in the list of stages and in what is held, are whole, and are not deeper than the recursion goes.
-use mathlib.Core.Path.{◌≡◌, refl, ap, sym, ◌∙◌}
-use mathlib.Core.List.{List, [], ◌∷◌, ◌++◌, append-nil}
-use Prim.Native.Nat.{ℕ, zero, suc, ◌+◌, ◌*◌, ◌-◌, ◌≤◌}
-use native.Mathlib.Omega.{arith}
-use native.Mathlib.Nat.{zero-add, suc-add}
-use lib.IntN.{ℤ}
-use lib.Ieee.{Float, nan}
-use lib.ListN.{length, get_or, set, length-append}
-use lib.Seq.{get_or-append-add}
-use borrow.Author.Tests.{lt-ltb, le-ltb, le-leb}
+use Rattle.std.proofs.Common.{◌≡◌, refl, ap, sym, ◌∙◌, List, [], ◌∷◌, ◌++◌, append-nil, ℕ, zero, suc, ◌+◌, ◌*◌, ◌-◌, ◌≤◌, arith, zero-add, suc-add, ℤ, Float, length, get_or, set, length-append, get_or-append-add, lt-ltb, le-ltb, le-leb}
+use Rattle.std.specs.Float.{nan}
 use Rattle.decibels.specs.Amplitude.{amplitude_of}
 use Rattle.frame.specs.declared.Frame.{Frame}
 use Rattle.frame.specs.Operations.{add_of, mul_of}

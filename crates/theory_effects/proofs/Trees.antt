@@ -1,10 +1,6 @@
 -- Every list of stages without a faulty one is the list of a tree of effects, which hold all that the stages hold. Assumes nothing.
-use mathlib.Core.Path.{◌≡◌, refl, ap, sym, ◌∙◌}
-use mathlib.Core.List.{[], ◌∷◌, ◌++◌}
-use Prim.Native.Nat.{ℕ, zero, suc, ◌+◌, ◌*◌, ◌-◌, ◌≤◌, ◌<◌}
-use native.Mathlib.Omega.{arith}
+use Rattle.std.proofs.Common.{◌≡◌, refl, ap, sym, ◌∙◌, [], ◌∷◌, ◌++◌, ℕ, zero, suc, ◌+◌, ◌*◌, ◌-◌, ◌≤◌, ◌<◌, arith, length, length-append}
 use native.Mathlib.Decide.{dec_lt}
-use lib.ListN.{length, length-append}
 use Rattle.line.specs.Held.{Held, front, back, joined}
 use Rattle.memories.specs.Sizes.{place_positions, place_floats}
 use Rattle.stage.specs.declared.kind.Stage.{Stage}

@@ -1,5 +1,5 @@
 -- Document 01's examples hold: antt works out every row on the definitions. Assumes nothing.
-use mathlib.Core.Path.{refl}
+use Rattle.std.proofs.Common.{refl}
 use lib.Ieee.{add, sub, mul, div, neg, lt, le, eq, of_bits, to_bits, round}
 use Rattle.float.specs.Literal.{literal}
 use Rattle.float.specs.Clamp.{abs_of, unit_of, signed_unit_of}

@@ -1,9 +1,8 @@
 -- `Nearer` said of the magnitudes in units of the format's smallest value, and back. Assumes nothing.
-use mathlib.Core.Path.{◌≡◌, sym, ap, ◌∙◌}
-use Prim.Native.Nat.{ℕ, ◌+◌, ◌*◌, ◌^◌, ◌≤◌, ◌<◌}
-use native.Mathlib.Nat.{one-le-pow, mul_assoc, mul_right_comm, mul-pos}
-use lib.Pow.{pow_pos}
-use lib.Ieee.{Float, Format, low}
+use Rattle.std.proofs.Common.{◌≡◌, sym, ap, ◌∙◌, ℕ, ◌+◌, ◌*◌, ◌^◌, ◌≤◌, ◌<◌, mul_assoc, mul_right_comm, mul-pos, pow_pos, Float}
+use Rattle.std.specs.Float.{Format}
+use native.Mathlib.Nat.{one-le-pow}
+use lib.Ieee.{low}
 use Rattle.theory_nearest.specs.Nearest.{Nearer, last_digit, sum, product}
 use Rattle.theory_nearest.proofs.Powers.{mul_pow, scaled_le, scaled_eq}
 use Rattle.theory_nearest.proofs.Magnitude.{Mag, under_pos, smaller→lt, lt→smaller, same→same, same_size, sum_mag}

@@ -1,14 +1,7 @@
 -- What the nearest value to a fraction n / d is where it can be said outright: the fraction itself, the even one of two neighbours, an infinity, a zero. Magnitudes are counted in units of the format's smallest value, so the fraction is n * 2 ^ low / d. Assumes nothing.
-use mathlib.Core.Path.{◌≡◌, refl, sym, ap, ◌∙◌, subst}
-use mathlib.Core.Logic.{◌⊎◌, inl, inr}
-use mathlib.Core.Bool.{Bool}
-use Prim.Native.Nat.{ℕ, suc, ◌+◌, ◌*◌, ◌^◌, ◌≤◌, ◌<◌}
-use native.Mathlib.Nat.{le_trans, le_of_eq, eq-zero-or-pos, mul-le-mul_right, mul-lt-mul_of_pos_right, add-mul}
-use native.Mathlib.Omega.{arith}
-use lib.Dec.{T}
-use lib.Pow.{pow_pos}
-use lib.IntN.{pos}
-use lib.Ieee.{Float, Format, prec, emax, low, fits, units}
+use Rattle.std.proofs.Common.{◌≡◌, refl, sym, ap, ◌∙◌, subst, ◌⊎◌, inl, inr, Bool, ℕ, suc, ◌+◌, ◌*◌, ◌^◌, ◌≤◌, ◌<◌, le_trans, le_of_eq, eq-zero-or-pos, mul-le-mul_right, mul-lt-mul_of_pos_right, add-mul, arith, T, pow_pos, pos, Float}
+use Rattle.std.specs.Float.{Format}
+use lib.Ieee.{prec, emax, low, fits, units}
 use Rattle.theory_nearest.specs.Nearest.{Nearest, under, sum, product, last_digit, signed}
 use Rattle.theory_nearest.specs.Ieee754.{zero_of, Neighbours, HalfWay}
 use Rattle.theory_nearest.proofs.Powers.{first_power, twice_number, split_order}

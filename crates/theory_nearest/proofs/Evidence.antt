@@ -1,13 +1,7 @@
 -- The evidence that `sqrt_of` and `narrow_of` are IEEE 754's, in the words of specs/Nearest.antt and over the format: the root is the format's value nearest to the real root, the narrowing the value nearest to the same number, and there is no other such value. Assumes nothing.
-use mathlib.Core.Path.{◌≡◌, sym}
-use mathlib.Core.Logic.{inl, inr}
-use mathlib.Core.Bool.{Bool, false}
-use Prim.Native.Nat.{ℕ, ◌*◌, ◌^◌}
-use native.Mathlib.Nat.{le_antisymm, le_trans, le_of_eq, add_comm, mul_comm}
-use native.Mathlib.Omega.{arith}
-use mathlib.Core.Path.{ap, ◌∙◌}
-use lib.Dec.{T}
-use lib.Ieee.{Float, fin, Format, up, down, fits}
+use Rattle.std.proofs.Common.{◌≡◌, sym, inl, inr, Bool, false, ℕ, ◌*◌, ◌^◌, le_antisymm, le_trans, le_of_eq, add_comm, mul_comm, arith, ap, ◌∙◌, T, Float}
+use Rattle.std.specs.Float.{Format}
+use lib.Ieee.{fin, up, down, fits}
 use lib.Ieee.Fits.{down_pos}
 use lib.Ieee.Positive.{num, den, positive}
 use Rattle.rounding.specs.Root.{sqrt_of}

@@ -1,14 +1,8 @@
 -- The grid of a format's values: from 2 ^ (p - 1 + k) units up to 2 ^ (p + k) they are 2 ^ k units apart, and the last digit of a value's bits is that of its place on the grid. Assumes nothing.
-use mathlib.Core.Path.{◌≡◌, refl, sym, ap, ◌∙◌, subst}
-use mathlib.Core.Logic.{◌⊎◌, inl, inr}
-use Prim.Native.Nat.{ℕ, suc, ◌+◌, ◌-◌, ◌*◌, ◌/◌, ◌%◌, ◌^◌, ◌≤◌, ◌<◌}
-use native.Mathlib.Nat.{le_trans, le_of_eq, le_of_lt, lt_of_lt_of_le, lt_of_le_of_lt, mul-one, mul_assoc, mul_comm, mul-le-mul_right, lt_of_mul-lt-mul_right, eq_of_mul-eq-mul_right, suc-mul, add_assoc, one-mul}
-use native.Mathlib.Omega.{arith}
-use mathlib.Core.Bool.{Bool, true, false, not, cond}
-use lib.IntN.{ℤ}
-use lib.Dec.{T, ltb, ltb→lt, nltb→le}
-use lib.Pow.{pow-add, pow_pos, pow_mono, shl_lt}
-use lib.Ieee.{Float, nan, inf, fin, Format, binary32, binary64, prec, size, hid, top, to_bits}
+use Rattle.std.proofs.Common.{◌≡◌, refl, sym, ap, ◌∙◌, subst, ◌⊎◌, inl, inr, ℕ, suc, ◌+◌, ◌-◌, ◌*◌, ◌/◌, ◌%◌, ◌^◌, ◌≤◌, ◌<◌, le_trans, le_of_eq, le_of_lt, lt_of_lt_of_le, lt_of_le_of_lt, mul-one, mul_assoc, mul_comm, mul-le-mul_right, lt_of_mul-lt-mul_right, suc-mul, add_assoc, one-mul, arith, Bool, true, false, not, cond, ℤ, T, ltb, ltb→lt, nltb→le, pow-add, pow_pos, pow_mono, shl_lt, Float}
+use Rattle.std.specs.Float.{nan, Format, binary32, binary64}
+use native.Mathlib.Nat.{eq_of_mul-eq-mul_right}
+use lib.Ieee.{inf, fin, prec, size, hid, top, to_bits}
 use lib.Ieee.Digits.{back}
 use Rattle.theory_nearest.specs.Nearest.{signed, last_digit}
 use Rattle.float.proofs.Fields.{twice, prec_pos}

@@ -1,12 +1,7 @@
 -- `sqrt_of` is IEEE 754's square root and `narrow_of` its conversion to a format, in every case, and no other function is. Assumes nothing.
-use mathlib.Core.Path.{◌≡◌, refl, sym, ap, ◌∙◌}
-use mathlib.Core.Bool.{Bool, true, false}
-use Prim.Native.Nat.{ℕ, zero, suc, ◌*◌, ◌^◌, ◌<◌}
-use native.Mathlib.Nat.{zero-lt-suc, not-le_of_lt}
-use native.Mathlib.Omega.{arith}
-use lib.Dec.{T, lt→ltb}
-use lib.IntN.{ℤ, pos}
-use lib.Ieee.{Float, nan, inf, fin, Format, up, down, fits}
+use Rattle.std.proofs.Common.{◌≡◌, refl, sym, ap, ◌∙◌, Bool, true, false, ℕ, zero, suc, ◌*◌, ◌^◌, ◌<◌, zero-lt-suc, not-le_of_lt, arith, T, lt→ltb, ℤ, pos, Float}
+use Rattle.std.specs.Float.{nan, Format}
+use lib.Ieee.{inf, fin, up, down, fits}
 use lib.Ieee.Fits.{down_pos}
 use Rattle.rounding.specs.Root.{sqrt_of}
 use Rattle.rounding.specs.Narrow.{narrow_of}

@@ -1,14 +1,10 @@
 -- One law for every rounding: where r is the whole number nearest to t in units of 2 ^ k of the format's smallest values, a tie going to the even one, and k drops no more digits than it has to,
 -- r * 2 ^ k units are the format's value nearest to t. As in specs/Nearest.antt, t ^ j = n / d. Assumes nothing.
-use mathlib.Core.Path.{◌≡◌, sym, ap, ◌∙◌, subst}
-use mathlib.Core.Logic.{◌⊎◌, inl, inr}
-use mathlib.Core.Bool.{Bool, true, false, not, cond, beq}
-use Prim.Native.Nat.{ℕ, zero, suc, ◌+◌, ◌-◌, ◌*◌, ◌%◌, ◌^◌, ◌≤◌, ◌<◌, zero-le}
-use native.Mathlib.Nat.{le_trans, le_of_eq, le_of_lt, le_antisymm, eq-or-lt_of_le, lt_of_lt_of_le, lt_of_le_of_lt, lt_irrefl, ne_of_lt, add_left_cancel, mul-one, mul_comm, mul_assoc, mul-le-mul_right, add-mul, one-mul, zero-mul, zero-lt-suc}
-use native.Mathlib.Omega.{arith}
-use lib.Dec.{T, ltb, ltb→lt, nltb→le}
-use lib.Pow.{pow-add, pow_pos, pow_mono, pow-lt}
-use lib.Ieee.{Float, nan, inf, fin, Format, binary32, binary64, prec, emax, low, hid, top, fits, odd, units}
+use Rattle.std.proofs.Common.{◌≡◌, sym, ap, ◌∙◌, subst, ◌⊎◌, inl, inr, Bool, true, false, not, cond, ℕ, zero, suc, ◌+◌, ◌-◌, ◌*◌, ◌%◌, ◌^◌, ◌≤◌, ◌<◌, zero-le, le_trans, le_of_eq, le_of_lt, le_antisymm, eq-or-lt_of_le, lt_of_lt_of_le, lt_of_le_of_lt, lt_irrefl, ne_of_lt, add_left_cancel, mul-one, mul_comm, mul_assoc, mul-le-mul_right, add-mul, one-mul, zero-mul, zero-lt-suc, arith, T, ltb, ltb→lt, nltb→le, pow-add, pow_pos, pow_mono, Float}
+use Rattle.std.specs.Float.{nan, Format, binary32, binary64}
+use mathlib.Core.Bool.{beq}
+use lib.Pow.{pow-lt}
+use lib.Ieee.{inf, fin, prec, emax, low, hid, top, fits, odd, units}
 use lib.Ieee.Exact.{HasValue, odd_sign}
 use lib.Ieee.Bits.{of_bits-fits}
 use Rattle.rounding.specs.Inner.{pattern}

@@ -1,12 +1,10 @@
 -- A value's magnitude in units of the format's smallest value, an infinity counted as in specs/Nearest.antt: which magnitudes there are, that the order of values is theirs, and that a magnitude and a sign make a value. Assumes nothing.
-use mathlib.Core.Path.{◌≡◌, refl, sym, ap, ◌∙◌}
-use Prim.Native.Nat.{ℕ, zero, suc, ◌+◌, ◌-◌, ◌*◌, ◌%◌, ◌^◌, ◌≤◌, ◌<◌}
-use native.Mathlib.Nat.{le_of_eq, le_of_lt, lt_of_lt_of_le, lt_of_le_of_lt, lt_irrefl, zero-lt-suc, zero-mul, mul-one, one-mul, mul_comm, mul_assoc, mul_right_comm, mul-pos, mul-lt-mul_of_pos_right, lt_of_mul-lt-mul_right, eq_of_mul-eq-mul_right, add-mul}
-use mathlib.Core.Bool.{Bool, true, false, ◌&&◌, beq}
-use lib.IntN.{ℤ, pos, negsuc}
-use lib.Dec.{T, leb, ltb, eqb, ltb→lt, leb→le}
-use lib.Pow.{pow-add, pow_pos, pow-lt}
-use lib.Ieee.{Float, nan, inf, fin, Format, binary32, binary64, prec, emax, low, up, down, fits}
+use Rattle.std.proofs.Common.{◌≡◌, refl, sym, ap, ◌∙◌, ℕ, zero, suc, ◌+◌, ◌-◌, ◌*◌, ◌%◌, ◌^◌, ◌≤◌, ◌<◌, le_of_eq, le_of_lt, lt_of_lt_of_le, lt_of_le_of_lt, lt_irrefl, zero-lt-suc, zero-mul, mul-one, one-mul, mul_comm, mul_assoc, mul_right_comm, mul-pos, mul-lt-mul_of_pos_right, lt_of_mul-lt-mul_right, add-mul, Bool, true, false, ◌&&◌, ℤ, pos, negsuc, T, leb, ltb, eqb, ltb→lt, leb→le, pow-add, pow_pos, Float}
+use Rattle.std.specs.Float.{nan, Format, binary32, binary64}
+use native.Mathlib.Nat.{eq_of_mul-eq-mul_right}
+use mathlib.Core.Bool.{beq}
+use lib.Pow.{pow-lt}
+use lib.Ieee.{inf, fin, prec, emax, low, up, down, fits}
 use lib.Ieee.Digits.{back}
 use lib.Ieee.Fits.{down_pos, and_l, and_r}
 use Rattle.theory_nearest.specs.Nearest.{over, under, signed, Smaller}

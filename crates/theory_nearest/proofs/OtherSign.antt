@@ -1,12 +1,8 @@
 -- A value of the other sign is farther: the nearest value with its own sign has at most twice the magnitude of t, since the zero with that sign is not nearer. Assumes nothing.
-use mathlib.Core.Path.{◌≡◌, sym, ap, ◌∙◌}
-use mathlib.Core.Logic.{inl, inr}
-use mathlib.Core.Bool.{Bool, true, false}
-use Prim.Native.Nat.{ℕ, ◌+◌, ◌-◌, ◌*◌, ◌^◌, ◌≤◌, ◌<◌, zero-le}
-use native.Mathlib.Nat.{le_of_eq, lt_of_lt_of_le, lt_of_le_of_lt, eq-or-lt_of_le, one-le-pow, mul-one, zero-mul, add-zero, mul_assoc, mul_right_comm, mul-lt-mul_of_pos_right}
-use native.Mathlib.Omega.{arith}
-use lib.Dec.{T}
-use lib.Ieee.{Float, Format, binary32, binary64, fits, to_bits}
+use Rattle.std.proofs.Common.{◌≡◌, sym, ap, ◌∙◌, inl, inr, Bool, true, false, ℕ, ◌+◌, ◌-◌, ◌*◌, ◌^◌, ◌≤◌, ◌<◌, zero-le, le_of_eq, lt_of_lt_of_le, lt_of_le_of_lt, eq-or-lt_of_le, mul-one, zero-mul, add-zero, mul_assoc, mul_right_comm, mul-lt-mul_of_pos_right, arith, T, Float}
+use Rattle.std.specs.Float.{Format, binary32, binary64}
+use native.Mathlib.Nat.{one-le-pow}
+use lib.Ieee.{fits, to_bits}
 use lib.Ieee.Positive.{first_pos}
 use Rattle.theory_nearest.specs.Nearest.{Nearest, Nearer, Farther, Smaller, over, under, sum, product, difference, signed, last_digit}
 use Rattle.theory_nearest.specs.Ieee754.{zero_of}

@@ -1,13 +1,8 @@
 -- Where the nearest value is an infinity: from half way between the largest finite value and 2 ^ (emax + 1) on, and not before. Assumes nothing.
-use mathlib.Core.Path.{◌≡◌, sym, ap, ◌∙◌}
-use mathlib.Core.Logic.{inr}
-use mathlib.Core.Bool.{Bool}
-use Prim.Native.Nat.{ℕ, suc, ◌+◌, ◌-◌, ◌*◌, ◌^◌, ◌≤◌, ◌<◌}
-use native.Mathlib.Nat.{le_trans, le_of_eq, lt_of_lt_of_le, mul_comm, mul_right_comm, mul-pos, mul-le-mul_right, mul-lt-mul_of_pos_right, add-mul, suc-mul, pow-suc, sub-add_cancel}
-use native.Mathlib.Omega.{arith}
-use lib.Dec.{T}
-use lib.Pow.{pow-add, pow_pos, pow-lt, pow_mono}
-use lib.Ieee.{Float, nan, inf, fin, Format, binary32, binary64, prec, emax, low, hid, units}
+use Rattle.std.proofs.Common.{◌≡◌, sym, ap, ◌∙◌, inr, Bool, ℕ, suc, ◌+◌, ◌-◌, ◌*◌, ◌^◌, ◌≤◌, ◌<◌, le_trans, le_of_eq, lt_of_lt_of_le, mul_comm, mul_right_comm, mul-pos, mul-le-mul_right, mul-lt-mul_of_pos_right, add-mul, suc-mul, pow-suc, sub-add_cancel, arith, T, pow-add, pow_pos, pow_mono, Float}
+use Rattle.std.specs.Float.{nan, Format, binary32, binary64}
+use lib.Pow.{pow-lt}
+use lib.Ieee.{inf, fin, prec, emax, low, hid, units}
 use lib.Ieee.Fits.{inf-fits}
 use lib.Ieee.Scale.{finite}
 use Rattle.float.proofs.Fields.{prec_pos, hid_twice, suc_pred}

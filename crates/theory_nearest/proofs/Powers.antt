@@ -1,11 +1,6 @@
 -- Comparing j-th powers of whole numbers, and products with them. Assumes nothing.
-use mathlib.Core.Path.{◌≡◌, sym, ap, ◌∙◌}
-use mathlib.Core.Logic.{◌⊎◌, inl, inr}
-use Prim.Native.Nat.{ℕ, zero, suc, ◌*◌, ◌^◌, ◌≤◌, ◌<◌}
-use native.Mathlib.Nat.{le_trans, le_of_eq, lt_irrefl, lt_of_lt_of_le, eq-or-lt_of_le, mul_comm, mul_assoc, mul-mul-mul_comm, mul-le-mul_right, mul-lt-mul_of_pos_right, le_of_mul-le-mul_right, eq_of_mul-eq-mul_right, one-mul, pow-zero, pow-suc, pow-le-pow_left, pow-lt-pow_left}
-use native.Mathlib.Omega.{arith}
-use mathlib.Core.Bool.{Bool, true, false, not}
-use lib.Dec.{T, ltb, ltb→lt, nltb→le}
+use Rattle.std.proofs.Common.{◌≡◌, sym, ap, ◌∙◌, ◌⊎◌, inl, inr, ℕ, zero, suc, ◌*◌, ◌^◌, ◌≤◌, ◌<◌, le_trans, le_of_eq, lt_irrefl, lt_of_lt_of_le, eq-or-lt_of_le, mul_comm, mul_assoc, mul-le-mul_right, mul-lt-mul_of_pos_right, le_of_mul-le-mul_right, one-mul, pow-suc, arith, Bool, true, false, not, T, ltb, ltb→lt, nltb→le}
+use native.Mathlib.Nat.{mul-mul-mul_comm, eq_of_mul-eq-mul_right, pow-zero, pow-le-pow_left, pow-lt-pow_left}
 
 pub first_power : (a : ℕ) → a ^ 1 ≡ a
 first_power a = pow-suc a 0 ∙ ap (λ (x : ℕ). x * a) (pow-zero a) ∙ one-mul a

@@ -1,13 +1,8 @@
 -- The digits of `sqrt_of` keep what Kept.antt asks: so it gives the value nearest to the root. No root is half way between two values. Assumes nothing.
-use mathlib.Core.Path.{◌≡◌, refl, sym, ap, ◌∙◌, subst}
-use mathlib.Core.Logic.{inr}
-use mathlib.Core.Bool.{true, false}
-use Prim.Native.Nat.{ℕ, zero, suc, ◌+◌, ◌-◌, ◌*◌, ◌/◌, ◌^◌, ◌≤◌, ◌<◌}
-use native.Mathlib.Nat.{le_trans, le_of_eq, le_refl, le_of_lt, lt_of_lt_of_le, lt_of_le_of_lt, ne_of_lt, lt_of_not-le, le_of_suc-le-suc, zero-lt-suc, one-mul, mul_comm, mul_assoc, mul_left_comm, mul_right_comm, mul-mul-mul_comm, mul-pos, mul-le-mul, mul-le-mul_right, mul-lt-mul_of_pos_right, le_of_mul-le-mul_right, lt_of_mul-lt-mul_right, suc-mul, mul-div_cancel}
-use native.Mathlib.Omega.{arith}
-use lib.Dec.{T}
-use lib.Pow.{pow-add, pow_pos, pow_mono, shl_lt}
-use lib.Ieee.{Float, nan, inf, fin, Format, binary32, binary64, prec, low, hid, size, fits}
+use Rattle.std.proofs.Common.{◌≡◌, refl, sym, ap, ◌∙◌, subst, inr, true, false, ℕ, zero, suc, ◌+◌, ◌-◌, ◌*◌, ◌/◌, ◌^◌, ◌≤◌, ◌<◌, le_trans, le_of_eq, le_refl, le_of_lt, lt_of_lt_of_le, lt_of_le_of_lt, ne_of_lt, lt_of_not-le, le_of_suc-le-suc, zero-lt-suc, one-mul, mul_comm, mul_assoc, mul_left_comm, mul_right_comm, mul-pos, mul-le-mul, mul-le-mul_right, mul-lt-mul_of_pos_right, le_of_mul-le-mul_right, lt_of_mul-lt-mul_right, suc-mul, mul-div_cancel, arith, T, pow-add, pow_pos, pow_mono, shl_lt, Float}
+use Rattle.std.specs.Float.{nan, Format, binary32, binary64}
+use native.Mathlib.Nat.{mul-mul-mul_comm}
+use lib.Ieee.{inf, fin, prec, low, hid, size, fits}
 use lib.Ieee.Digits.{size-lt, size-le, size_reaches}
 use lib.Ieee.Exact.{HasValue}
 use lib.Ieee.Positive.{num, den, positive, den_pos, first_pos, value_pos}

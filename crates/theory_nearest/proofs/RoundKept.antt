@@ -1,12 +1,9 @@
 -- The library's `round` keeps what Kept.antt asks: so it gives the nearest value. Assumes nothing.
-use mathlib.Core.Path.{◌≡◌, refl, sym, ap, ◌∙◌, subst}
-use mathlib.Core.Logic.{◌⊎◌, inl, inr}
-use mathlib.Core.Bool.{Bool}
-use Prim.Native.Nat.{ℕ, zero, suc, ◌+◌, ◌-◌, ◌*◌, ◌/◌, ◌%◌, ◌^◌, ◌≤◌, ◌<◌, zero-le, compare}
-use native.Mathlib.Nat.{le_trans, le_of_eq, zero-lt-suc, eq-zero-or-pos, one-mul, zero-mul, mul_comm, mul_assoc, mul-pos, add-mul, suc-mul, le-div_iff_mul-le, div-div-eq-div-mul}
-use native.Mathlib.Omega.{arith}
-use lib.Pow.{pow-add, pow_pos}
-use lib.Ieee.{Format, prec, low, size, round, hid}
+use Rattle.std.proofs.Common.{◌≡◌, refl, sym, ap, ◌∙◌, subst, ◌⊎◌, inl, inr, Bool, ℕ, zero, suc, ◌+◌, ◌-◌, ◌*◌, ◌/◌, ◌%◌, ◌^◌, ◌≤◌, ◌<◌, zero-le, le_trans, le_of_eq, zero-lt-suc, eq-zero-or-pos, one-mul, zero-mul, mul_comm, mul_assoc, mul-pos, add-mul, suc-mul, le-div_iff_mul-le, arith, pow-add, pow_pos}
+use Rattle.std.specs.Float.{Format}
+use Prim.Native.Nat.{compare}
+use native.Mathlib.Nat.{div-div-eq-div-mul}
+use lib.Ieee.{prec, low, size, round, hid}
 use lib.Ieee.Digits.{size_reaches}
 use lib.Ieee.Fits.{nearest-le, kept-lt}
 use lib.Ieee.Nearest.{closest, nearest-ge}

@@ -1,12 +1,8 @@
 -- Below the least normal number no digit is dropped: there the library's `round` gives the nearest multiple of the format's smallest value. Assumes nothing.
-use mathlib.Core.Path.{◌≡◌, refl, sym, ap, ◌∙◌, subst}
-use mathlib.Core.Logic.{inl}
-use mathlib.Core.Bool.{Bool}
-use Prim.Native.Nat.{ℕ, ◌-◌, ◌*◌, ◌/◌, ◌%◌, ◌^◌, ◌≤◌, ◌<◌, compare}
-use native.Mathlib.Nat.{le_trans, le_of_eq, le_of_lt, lt_of_lt_of_le, mul-one, mul-le-mul_right, div-lt_iff_lt-mul}
-use native.Mathlib.Omega.{arith}
-use lib.Pow.{pow_mono}
-use lib.Ieee.{Format, prec, low, hid, round, units}
+use Rattle.std.proofs.Common.{◌≡◌, refl, sym, ap, ◌∙◌, subst, inl, Bool, ℕ, ◌-◌, ◌*◌, ◌/◌, ◌%◌, ◌^◌, ◌≤◌, ◌<◌, le_trans, le_of_eq, le_of_lt, lt_of_lt_of_le, mul-one, mul-le-mul_right, div-lt_iff_lt-mul, arith, pow_mono}
+use Rattle.std.specs.Float.{Format}
+use Prim.Native.Nat.{compare}
+use lib.Ieee.{prec, low, hid, round, units}
 use lib.Ieee.Fits.{nearest-le}
 use lib.Ieee.Nearest.{closest}
 use Rattle.rounding.proofs.Pack.{drops_none}

@@ -1,9 +1,6 @@
 -- The library's `closest` gives the nearest whole number, a tie going to the even one. Assumes nothing.
-use mathlib.Core.Path.{◌≡◌, refl, sym, subst}
-use Prim.Native.Nat.{ℕ, zero, suc, ◌+◌, ◌*◌, ◌/◌, ◌%◌, ◌<◌, compare, Ordering}
-use native.Mathlib.Nat.{mod-lt, div-add-mod', add-mul, one-mul, add-zero}
-use native.Mathlib.Omega.{arith}
-use native.Mathlib.Numerals.{add-one}
+use Rattle.std.proofs.Common.{◌≡◌, refl, sym, subst, ℕ, zero, suc, ◌+◌, ◌*◌, ◌/◌, ◌%◌, ◌<◌, mod-lt, div-add-mod', add-mul, one-mul, add-zero, arith, add-one}
+use Prim.Native.Nat.{compare, Ordering}
 use lib.Ieee.{nearest}
 use lib.Ieee.Nearest.{closest}
 use Rattle.rounding.proofs.Compare.{Compared, compared}

@@ -1,9 +1,6 @@
 -- The order does not matter: two accepted orders that name each stage equally often, or that both bring every stage to the
 -- last frame, leave the same.
-use mathlib.Core.Path.{◌≡◌, sym, ◌∙◌}
-use mathlib.Core.List.{List}
-use Prim.Native.Nat.{ℕ, ◌<◌}
-use native.Mathlib.Omega.{arith}
+use Rattle.std.proofs.Common.{◌≡◌, sym, ◌∙◌, List, ℕ, ◌<◌, arith}
 use native.Mathlib.Decide.{dec_lt}
 use Rattle.theory_order.specs.Order.{count, run, Allowed}
 use Rattle.theory_order.specs.Chain.{State, Chain, step, Ok, Local, Inv}

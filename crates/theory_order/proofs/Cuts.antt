@@ -1,11 +1,6 @@
 -- A block cut at any frame leaves what its two parts leave, the second begun with what the first left, where no stage's doing
 -- depends on where in a block it is: by `frame_by_frame`, which knows no order. Assumes nothing.
-use mathlib.Core.Path.{◌≡◌, refl, sym, ap, ap₂, ◌∙◌}
-use mathlib.Core.List.{List, [], ◌∷◌, ◌++◌, append_assoc}
-use Prim.Native.Nat.{ℕ, zero, suc, ◌+◌, ◌*◌}
-use native.Mathlib.Omega.{arith}
-use native.Mathlib.Nat.{add-zero, suc-add, zero-add}
-use lib.ListN.{length}
+use Rattle.std.proofs.Common.{◌≡◌, refl, sym, ap, ap₂, ◌∙◌, List, [], ◌∷◌, ◌++◌, append_assoc, ℕ, zero, suc, ◌+◌, ◌*◌, arith, add-zero, suc-add, zero-add, length}
 use Rattle.theory_order.specs.Order.{run}
 use Rattle.theory_order.specs.Chain.{Out, State, Moment, moment, Chain, step, Local, Steady, Inv}
 use Rattle.theory_order.specs.Render.{from, first_frame, rest, followed_by, through, pass, frame_by_frame_from, frame_by_frame}

@@ -1,10 +1,6 @@
 -- Over any kind of state: where two steps that may both be taken commute, and neither forbids the other, any two accepted
 -- orders that name each step equally often leave the same. The first entry of one is pulled to the front of the other.
-use mathlib.Core.Path.{◌≡◌, refl, sym, ◌∙◌, subst}
-use mathlib.Core.Logic.{◌≢◌}
-use mathlib.Core.List.{List, [], ◌∷◌}
-use Prim.Native.Nat.{ℕ, ◌+◌, ◌<◌}
-use native.Mathlib.Omega.{arith}
+use Rattle.std.proofs.Common.{◌≡◌, refl, sym, ◌∙◌, subst, ◌≢◌, List, [], ◌∷◌, ℕ, ◌+◌, ◌<◌, arith}
 use native.Mathlib.Decide.{ℕ_discrete}
 use Rattle.theory_order.specs.Order.{hit, count, run, Allowed}
 use Rattle.theory_order.proofs.Orders.{hit_same, hit_other}

@@ -1,10 +1,6 @@
 -- Where no stage is ahead of the one just before it, none is ahead of any before it: what `Inv` asks, from what is tested.
-use mathlib.Core.Path.{◌≡◌}
-use mathlib.Core.List.{List}
-use Prim.Native.Nat.{ℕ, zero, suc, ◌-◌, ◌≤◌, ◌<◌}
-use native.Mathlib.Omega.{arith}
+use Rattle.std.proofs.Common.{◌≡◌, List, ℕ, zero, suc, ◌-◌, ◌≤◌, ◌<◌, arith, get_or}
 use native.Mathlib.Decide.{dec_lt}
-use lib.ListN.{get_or}
 
 pub falls_from_next : (n : ℕ) (p : List ℕ) → ((k : ℕ) → 0 < k → k < n → get_or p k 0 ≤ get_or p (k - 1) 0) → (a b : ℕ) → a ≤ b → b < n → get_or p b 0 ≤ get_or p a 0
 falls_from_next n p f a zero h l = let e : a ≡ 0 = omega arith in rw e (omega arith)

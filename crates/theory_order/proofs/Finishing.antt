@@ -1,12 +1,7 @@
 -- From any state that holds between steps, `finishing` is accepted and brings every stage to the last frame; so whatever else
 -- does leaves the same.
-use mathlib.Core.Path.{◌≡◌, refl, ◌∙◌}
-use mathlib.Core.Logic.{◌≢◌}
-use mathlib.Core.List.{List, ◌++◌}
-use Prim.Native.Nat.{ℕ, zero, suc, ◌+◌, ◌-◌, ◌≤◌, ◌<◌}
-use native.Mathlib.Omega.{arith}
+use Rattle.std.proofs.Common.{◌≡◌, refl, ◌∙◌, ◌≢◌, List, ◌++◌, ℕ, zero, suc, ◌+◌, ◌-◌, ◌≤◌, ◌<◌, arith, get_or, replicate}
 use native.Mathlib.Decide.{ℕ_discrete}
-use lib.ListN.{get_or, replicate}
 use Rattle.theory_order.specs.Order.{run, Allowed}
 use Rattle.theory_order.specs.Chain.{State, Chain, at, step, Ok, Local, Inv}
 use Rattle.theory_order.specs.Finish.{frames_to_go, finishing_from, finishing}

@@ -1,11 +1,6 @@
 -- Whole frame after whole frame is an accepted order that brings every stage to the last frame, and what it leaves is what the
 -- recursion `frame_by_frame` says; so both hold of every order that does.
-use mathlib.Core.Path.{◌≡◌, refl, sym, ap, ap₂, ◌∙◌, subst}
-use mathlib.Core.List.{List, ◌++◌}
-use Prim.Native.Nat.{ℕ, zero, suc, ◌+◌, ◌*◌, ◌≤◌}
-use native.Mathlib.Omega.{arith}
-use lib.ListN.{take, drop, take-append-drop}
-use lib.Seq.{drop-drop}
+use Rattle.std.proofs.Common.{◌≡◌, refl, sym, ap, ap₂, ◌∙◌, subst, List, ◌++◌, ℕ, zero, suc, ◌+◌, ◌*◌, ◌≤◌, arith, take, drop, take-append-drop, drop-drop}
 use Rattle.theory_order.specs.Order.{run}
 use Rattle.theory_order.specs.Stretch.{part}
 use Rattle.theory_order.specs.Chain.{Out, State, moment, Chain, step, Ok, Done, Local, Inv}

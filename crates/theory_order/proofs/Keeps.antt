@@ -1,9 +1,5 @@
 -- What an accepted order keeps, and how far it brings each stage.
-use mathlib.Core.Path.{◌≡◌, refl, ◌∙◌}
-use mathlib.Core.List.{List, [], ◌∷◌}
-use Prim.Native.Nat.{ℕ, zero, suc, ◌≤◌, ◌<◌}
-use native.Mathlib.Omega.{arith}
-use lib.ListN.{length, get_or}
+use Rattle.std.proofs.Common.{◌≡◌, refl, ◌∙◌, List, [], ◌∷◌, ℕ, zero, suc, ◌≤◌, ◌<◌, arith, length, get_or}
 use Rattle.theory_order.specs.Order.{count, run, Allowed}
 use Rattle.theory_order.specs.Chain.{State, Chain, step, Ok, Local, Inv}
 use Rattle.theory_order.specs.Claims.{Kept}

@@ -1,9 +1,6 @@
 -- One frame through all stages, one after the other: an accepted order, which changes no other frame.
-use mathlib.Core.Path.{◌≡◌, refl, ap, ◌∙◌}
-use Prim.Native.Nat.{ℕ, zero, suc, ◌+◌, ◌-◌, ◌*◌, ◌≤◌, ◌<◌}
-use native.Mathlib.Omega.{arith}
+use Rattle.std.proofs.Common.{◌≡◌, refl, ap, ◌∙◌, ℕ, zero, suc, ◌+◌, ◌-◌, ◌*◌, ◌≤◌, ◌<◌, arith, drop}
 use native.Mathlib.Decide.{ℕ_discrete}
-use lib.ListN.{drop}
 use Rattle.theory_order.specs.Order.{run, Allowed}
 use Rattle.theory_order.specs.Stretch.{part}
 use Rattle.theory_order.specs.Chain.{State, moment, Chain, at, out, put, step, Ok, Done, Local, Inv}

@@ -1,10 +1,6 @@
 -- One step of a stage that may take it: what changes, what does not, and that what holds between steps still holds.
-use mathlib.Core.Path.{◌≡◌, refl}
-use Prim.Native.Nat.{ℕ, suc, ◌+◌, ◌-◌, ◌*◌, ◌≤◌, ◌<◌}
-use native.Mathlib.Omega.{arith}
+use Rattle.std.proofs.Common.{◌≡◌, refl, ℕ, suc, ◌+◌, ◌-◌, ◌*◌, ◌≤◌, ◌<◌, arith, length, drop, length-set, get_or-set_same, get_or-set_other}
 use native.Mathlib.Decide.{ℕ_discrete}
-use lib.ListN.{length, drop, length-set}
-use lib.Seq.{get_or-set_same, get_or-set_other}
 use Rattle.theory_order.specs.Order.{hit}
 use Rattle.theory_order.specs.Stretch.{part}
 use Rattle.theory_order.specs.Chain.{State, Chain, at, out, put, step, Ok, Made, Local, Inv}

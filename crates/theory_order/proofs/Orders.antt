@@ -1,8 +1,5 @@
 -- Laws of counting, running and accepting an order, over any kind of state: each by going through the entries.
-use mathlib.Core.Path.{◌≡◌, refl}
-use mathlib.Core.Logic.{◌≢◌}
-use mathlib.Core.List.{List, [], ◌∷◌, ◌++◌}
-use Prim.Native.Nat.{ℕ}
+use Rattle.std.proofs.Common.{◌≡◌, refl, ◌≢◌, List, [], ◌∷◌, ◌++◌, ℕ}
 use native.Mathlib.Decide.{ℕ_discrete}
 use Rattle.theory_order.specs.Order.{one_if, hit, run, Allowed}
 

@@ -1,10 +1,5 @@
 -- Laws of stretches: their lengths, and that two which lie apart have nothing to do with one another.
-use mathlib.Core.Path.{◌≡◌, refl, ap, ◌∙◌}
-use mathlib.Core.List.{List, [], ◌∷◌, ◌++◌}
-use Prim.Native.Nat.{ℕ, zero, suc, ◌+◌, ◌≤◌}
-use native.Mathlib.Omega.{arith}
-use lib.ListN.{length, take, drop, length-append, length-take, length-drop}
-use lib.Seq.{length-take-le, take_at, drop_at}
+use Rattle.std.proofs.Common.{◌≡◌, refl, ap, ◌∙◌, List, [], ◌∷◌, ◌++◌, ℕ, zero, suc, ◌+◌, ◌≤◌, arith, length, take, drop, length-append, length-take, length-drop, length-take-le, take_at, drop_at}
 use Rattle.theory_order.specs.Stretch.{part, splice}
 
 module _ {A : Type 0} where

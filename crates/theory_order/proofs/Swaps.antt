@@ -1,9 +1,6 @@
 -- Two steps of a chain that may both be taken commute, and neither forbids the other: of two stages the later works on an
 -- earlier frame, and each keeps to its own of what all hold.
-use mathlib.Core.Path.{◌≡◌, sym, ap₂, ◌∙◌}
-use mathlib.Core.Logic.{◌≢◌}
-use Prim.Native.Nat.{ℕ, suc, ◌-◌, ◌*◌, ◌<◌}
-use native.Mathlib.Omega.{arith}
+use Rattle.std.proofs.Common.{◌≡◌, sym, ap₂, ◌∙◌, ◌≢◌, ℕ, suc, ◌-◌, ◌*◌, ◌<◌, arith}
 use native.Mathlib.Decide.{dec_lt}
 use lib.Seq.{set_comm}
 use Rattle.theory_order.specs.Stretch.{splice}

@@ -1,10 +1,6 @@
 -- What a call meets to which no row applies, row by row and the right way round, for the proofs that use it. Assumes nothing.
-use mathlib.Core.Path.{◌≡◌}
-use mathlib.Core.Bool.{true}
-use mathlib.Core.List.{List}
-use Prim.Native.Nat.{ℕ, ◌+◌, ◌*◌, ◌-◌, ◌/◌, ◌%◌, ◌≤◌, ◌<◌}
-use lib.ListN.{length, get_or}
-use lib.Ieee.{Float, nan}
+use Rattle.std.proofs.Common.{◌≡◌, true, List, ℕ, ◌+◌, ◌*◌, ◌-◌, ◌/◌, ◌%◌, ◌≤◌, ◌<◌, length, get_or, Float}
+use Rattle.std.specs.Float.{nan}
 use Rattle.float.specs.Finite.{finite_of}
 use Rattle.theory_order.specs.Order.{Allowed}
 use Rattle.theory_order.specs.Chain.{OkFrom}

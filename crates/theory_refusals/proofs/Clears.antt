@@ -1,14 +1,6 @@
 -- A call is accepted exactly where it meets what `Clear` says: no row applies to it. Assumes nothing.
-use mathlib.Core.Path.{◌≡◌, refl, sym, ◌∙◌}
-use mathlib.Core.Logic.{inl, inr, ⊎_elim}
-use mathlib.Core.Bool.{true, true≢false}
-use mathlib.Core.List.{List}
-use Prim.Native.Nat.{ℕ, ◌+◌, ◌*◌, ◌/◌, ◌≤◌, ◌<◌}
-use native.Mathlib.Omega.{arith}
-use native.Mathlib.Nat.{lt_of_not-le}
-use lib.ListN.{length, get_or}
-use lib.Seq.{get_or-take, get_or-drop}
-use lib.Ieee.{Float, nan}
+use Rattle.std.proofs.Common.{◌≡◌, refl, sym, ◌∙◌, inl, inr, ⊎_elim, true, true≢false, List, ℕ, ◌+◌, ◌*◌, ◌/◌, ◌≤◌, ◌<◌, arith, lt_of_not-le, length, get_or, get_or-take, get_or-drop, Float}
+use Rattle.std.specs.Float.{nan}
 use borrow.Author.Tests.{not-false}
 use Rattle.float.specs.Finite.{finite_of}
 use Rattle.theory_order.specs.Stretch.{part}

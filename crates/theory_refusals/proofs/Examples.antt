@@ -1,14 +1,6 @@
 -- The edges of document 01's table of refusals, worked out by antt on the definition that the contracts cite. Assumes nothing.
-use mathlib.Core.Path.{◌≡◌, refl}
-use mathlib.Core.Bool.{false}
-use mathlib.Core.List.{List, [], ◌∷◌}
-use Prim.Native.Nat.{ℕ, ◌-◌}
-use native.Mathlib.Omega.{arith}
-use borrow.Author.Tests.{lt-ltb, le-leb}
-use lib.IntN.{pos}
-use lib.ListN.{length, replicate}
-use lib.Ieee.{Float, fin, le}
-use Rattle.std.specs.Prelude.{Err}
+use Rattle.std.proofs.Common.{◌≡◌, refl, false, List, [], ◌∷◌, ℕ, ◌-◌, arith, lt-ltb, le-leb, pos, length, replicate, Float, Err}
+use lib.Ieee.{fin, le}
 use Rattle.float.specs.Literal.{literal}
 use Rattle.float.specs.Finite.{finite_of}
 use Rattle.theory_tables.specs.First.{first_from}

@@ -1,10 +1,5 @@
 -- No entry of an order is stuck exactly where the theory of orders allows it: each entry may be run after those before it. Assumes nothing.
-use mathlib.Core.Logic.{inl, inr}
-use mathlib.Core.List.{List, [], ◌∷◌}
-use Prim.Native.Nat.{ℕ, zero, suc, ◌<◌}
-use native.Mathlib.Omega.{arith}
-use native.Mathlib.Nat.{lt_of_not-le}
-use lib.ListN.{length}
+use Rattle.std.proofs.Common.{inl, inr, List, [], ◌∷◌, ℕ, zero, suc, ◌<◌, arith, lt_of_not-le, length}
 use Rattle.theory_order.specs.Order.{Allowed}
 use Rattle.theory_order.specs.Chain.{OkFrom}
 use Rattle.theory_tables.specs.Condition.{Holds}

@@ -1,11 +1,7 @@
 -- What a list without a faulty stage looks like: what each stage owns ends inside the list and inside what its owners own, and no stage is deeper than 3. Assumes nothing.
-use mathlib.Core.Path.{◌≡◌, ap, ◌∙◌}
-use mathlib.Core.Logic.{inl, inr}
-use Prim.Native.Nat.{ℕ, zero, suc, ◌+◌, ◌≤◌, ◌<◌}
-use native.Mathlib.Omega.{arith}
+use Rattle.std.proofs.Common.{◌≡◌, ap, ◌∙◌, inl, inr, ℕ, zero, suc, ◌+◌, ◌≤◌, ◌<◌, arith, lt_of_not-le, le-leb}
 use native.Mathlib.Decide.{dec_lt}
-use native.Mathlib.Nat.{lt_of_not-le}
-use borrow.Author.Tests.{le-leb, lt-leb}
+use borrow.Author.Tests.{lt-leb}
 use Rattle.stage.specs.declared.setup.Setup.{Setup}
 use Rattle.stage.specs.Setup.{used_of}
 use Rattle.refusals.specs.Shape.{last_of, depth_of, faulty}

@@ -1,9 +1,5 @@
 -- Demand 1: "a refusal comes exactly under its condition, gives its number and place": each row's answer has the row's number and place, and the rest is the law of a table. Assumes nothing.
-use mathlib.Core.Path.{refl}
-use mathlib.Core.List.{List}
-use Prim.Native.Nat.{ℕ}
-use native.Mathlib.Omega.{arith}
-use lib.Ieee.{Float}
+use Rattle.std.proofs.Common.{refl, List, ℕ, arith, Float}
 use Rattle.theory_tables.specs.Rows.{ByTheTable}
 use Rattle.theory_tables.proofs.Tables.{by_the_table as law}
 use Rattle.stage.specs.declared.setup.Setup.{Setup}

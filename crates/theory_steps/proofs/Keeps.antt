@@ -1,12 +1,5 @@
 -- What a step leaves of the store, of the positions and of the floats is as long as what it had, whatever that was. Assumes nothing.
-use mathlib.Core.Path.{refl}
-use mathlib.Core.Bool.{◌&&◌}
-use mathlib.Core.List.{List}
-use Prim.Native.Nat.{ℕ, zero, suc, ◌+◌, ◌*◌}
-use lib.Dec.{ltb, leb}
-use lib.IntN.{ℤ}
-use lib.Ieee.{Float}
-use lib.ListN.{length-set}
+use Rattle.std.proofs.Common.{refl, ◌&&◌, List, ℕ, zero, suc, ◌+◌, ◌*◌, ltb, leb, ℤ, Float, length-set}
 use Rattle.integrators.specs.declared.Integrators.{Integrators}
 use Rattle.line.specs.Held.{Held, holds, front, Ran}
 use Rattle.line.proofs.Keeps.{Same, Keeps, same_refl, cond_keeps, joined_keeps, frame_in_keeps}

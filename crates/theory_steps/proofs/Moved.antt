@@ -1,15 +1,9 @@
 -- A reverb that has room moves the position of each of its lines along that line, and leaves the positions after them. Assumes nothing.
-use mathlib.Core.Path.{◌≡◌, refl, ap, sym, ◌∙◌}
-use mathlib.Core.Bool.{Bool, true, false, cond, ◌&&◌, and-eq-true_iff}
-use mathlib.Core.List.{List, [], ◌∷◌, ◌++◌, append-nil}
-use Prim.Native.Nat.{ℕ, zero, suc, ◌+◌, ◌-◌, ◌≤◌, ◌<◌}
-use native.Mathlib.Omega.{arith}
+use Rattle.std.proofs.Common.{◌≡◌, refl, ap, sym, ◌∙◌, Bool, true, false, cond, ◌&&◌, List, [], ◌∷◌, ◌++◌, append-nil, ℕ, zero, suc, ◌+◌, ◌-◌, ◌≤◌, ◌<◌, arith, ltb, leb, Float, length, get_or, set, take, drop, length-append, length-take, length-drop, take-append-drop, length-take-le, get_or-take, get_or-drop, get_or-append-add, drop-drop, lt-ltb, le-ltb, leb-true}
+use mathlib.Core.Bool.{and-eq-true_iff}
 use native.Mathlib.Decide.{dec_lt}
-use lib.Dec.{ltb, leb}
-use lib.Ieee.{Float}
-use lib.ListN.{length, get_or, set, take, drop, length-append, length-take, length-drop, take-append-drop, get_or-append}
-use lib.Seq.{length-take-le, get_or-take, get_or-drop, get_or-append-add, drop-append-add, drop-drop}
-use borrow.Author.Tests.{lt-ltb, le-ltb, leb-true}
+use lib.ListN.{get_or-append}
+use lib.Seq.{drop-append-add}
 use Rattle.line.specs.AllPass.{passed_of}
 use Rattle.line.specs.Comb.{combed_of}
 use Rattle.line.specs.Held.{Held, front, back, joined, Ran}

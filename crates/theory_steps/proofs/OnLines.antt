@@ -1,17 +1,9 @@
 -- Positions stay on their lines: if each remembered position of the stages from i up to e is below its line's length, then it is so after a step, which `chain` needs for a block that is cut. Assumes nothing.
 -- Neither the store's length nor the shape of the list matters for that, and that each line has a length at all is in what is assumed.
-use mathlib.Core.Path.{◌≡◌, refl, ap, sym, ◌∙◌}
-use mathlib.Core.Bool.{◌&&◌, and-eq-true_iff}
-use mathlib.Core.List.{List, ◌++◌}
-use Prim.Native.Nat.{ℕ, zero, suc, ◌+◌, ◌*◌, ◌-◌, ◌≤◌, ◌<◌}
-use native.Mathlib.Omega.{arith}
+use Rattle.std.proofs.Common.{◌≡◌, refl, ap, sym, ◌∙◌, ◌&&◌, List, ◌++◌, ℕ, zero, suc, ◌+◌, ◌*◌, ◌-◌, ◌≤◌, ◌<◌, arith, ℤ, Float, ltb, leb, length, get_or, set, take, drop, length-drop, length-set, length-take-le, get_or-take, get_or-drop, get_or-append-add, drop-drop, ltb-true}
+use mathlib.Core.Bool.{and-eq-true_iff}
 use native.Mathlib.Decide.{dec_lt}
-use lib.IntN.{ℤ}
-use lib.Ieee.{Float}
-use lib.Dec.{ltb, leb}
-use lib.ListN.{length, get_or, set, take, drop, length-drop, length-set, get_or-append}
-use lib.Seq.{length-take-le, get_or-take, get_or-drop, get_or-append-add, drop-drop}
-use borrow.Author.Tests.{ltb-true}
+use lib.ListN.{get_or-append}
 use Rattle.theory_order.specs.Stretch.{part, splice}
 use Rattle.line.specs.Frames.{frame_at}
 use Rattle.line.specs.Held.{front, back, joined, Ran, ran}

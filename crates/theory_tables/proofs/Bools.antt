@@ -1,11 +1,6 @@
 -- Laws of tests: one of numbers that have other names, and what a test of "and" or "or" says. Assumes nothing.
-use mathlib.Core.Path.{◌≡◌, refl}
-use mathlib.Core.Logic.{◌⊎◌, inl, inr}
-use mathlib.Core.Bool.{Bool, true, false, ◌&&◌, ◌||◌, true≢false, false≢true}
-use Prim.Native.Nat.{ℕ, ◌≤◌, ◌<◌}
-use native.Mathlib.Omega.{arith}
-use lib.Dec.{ltb}
-use borrow.Author.Tests.{lt-ltb, le-ltb}
+use Rattle.std.proofs.Common.{◌≡◌, refl, ◌⊎◌, inl, inr, Bool, true, false, ◌&&◌, ◌||◌, true≢false, ℕ, ◌≤◌, ◌<◌, arith, ltb, lt-ltb, le-ltb}
+use mathlib.Core.Bool.{false≢true}
 
 -- a test of numbers that are the definition's, by other names
 module _ {r x n m : ℕ} (e : r ≡ x) (q : n ≡ m) where

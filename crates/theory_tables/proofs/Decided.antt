@@ -1,9 +1,7 @@
 -- A condition is decided true exactly where it holds, and a row applies, with its place, exactly where that is decided. By induction over the condition. Assumes nothing.
-use mathlib.Core.Path.{◌≡◌, refl, ap, sym, ◌∙◌}
-use mathlib.Core.Logic.{⊎_elim, inl, inr}
-use mathlib.Core.Bool.{true, false, not, false≢true}
-use Prim.Native.Nat.{ℕ}
-use borrow.Author.Tests.{ltb-true, leb-true, eqb-true, eqb-false, not-true, lt-ltb, le-leb, eq-eqb, ne_eqb}
+use Rattle.std.proofs.Common.{◌≡◌, refl, ap, sym, ◌∙◌, ⊎_elim, inl, inr, true, false, not, ℕ, ltb-true, leb-true, eqb-true, lt-ltb, le-leb, eq-eqb, ne_eqb}
+use mathlib.Core.Bool.{false≢true}
+use borrow.Author.Tests.{eqb-false, not-true}
 use Rattle.theory_tables.specs.First.{first_of}
 use Rattle.theory_tables.specs.Condition.{Condition, less, at_most, same, differ, fails, either, both, among, Holds, decide}
 use Rattle.theory_tables.specs.Rows.{When, given, first, AppliesAt, Never, applies, place_in}

@@ -1,13 +1,8 @@
 -- Laws of the first number at which something is so, and of a loop that looks for it, number after number. Assumes nothing.
-use mathlib.Core.Path.{◌≡◌, refl, sym, ◌∙◌}
-use mathlib.Core.Bool.{Bool, true, false, cond, false≢true}
+use Rattle.std.proofs.Common.{◌≡◌, refl, sym, ◌∙◌, Bool, true, false, cond, Some, None, ℕ, zero, suc, ◌+◌, ◌≤◌, ◌<◌, arith, below_more, ltb-true, ltb-false, lt-ltb, le-ltb}
+use mathlib.Core.Bool.{false≢true}
 use Rattle.std.proofs.lemmas.Option.{none-some, cond_some}
-use Rattle.std.specs.Prelude.{Some, None}
-use Prim.Native.Nat.{ℕ, zero, suc, ◌+◌, ◌≤◌, ◌<◌}
-use native.Mathlib.Omega.{arith}
 use native.Mathlib.Decide.{ℕ_discrete, dec_lt}
-use borrow.Author.Count.{below_more}
-use borrow.Author.Tests.{ltb-true, ltb-false, lt-ltb, le-ltb}
 use Rattle.theory_tables.specs.First.{first_from, first_of, some, found_of}
 
 module _ (t : ℕ → Bool) where

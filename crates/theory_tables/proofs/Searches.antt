@@ -1,17 +1,8 @@
 -- The first number at which something is so, as std's `find`, `any` and `position` look for it: where the closure is the test. Assumes nothing.
-use mathlib.Core.Path.{◌≡◌, refl, ap, sym, ◌∙◌}
-use mathlib.Core.Bool.{Bool, true, false, cond, ◌&&◌, ◌||◌}
-use mathlib.Core.List.{List}
-use Prim.Native.Nat.{ℕ, zero, suc, ◌+◌, ◌≤◌, ◌<◌}
-use native.Mathlib.Omega.{arith}
+use Rattle.std.proofs.Common.{◌≡◌, refl, ap, sym, ◌∙◌, Bool, true, false, cond, ◌&&◌, ◌||◌, List, ℕ, zero, suc, ◌+◌, ◌≤◌, ◌<◌, arith, add-one, ltb, leb, length, get_or, lt-ltb, le-ltb, le-leb, Bor, Option, Some, None}
 use native.Mathlib.Decide.{dec_lt}
-use native.Mathlib.Numerals.{add-one}
-use lib.Dec.{ltb, leb}
-use lib.ListN.{length, get_or}
-use borrow.Author.Tests.{lt-ltb, le-ltb, le-leb, lt-leb}
+use borrow.Author.Tests.{lt-leb}
 use denote.Param.Members.{Mut}
-use denote.Ref.{Bor}
-use Rattle.std.specs.Prelude.{Option, Some, None}
 use Rattle.std.specs.Bool.{⊤}
 use Rattle.std.specs.Fn.{CalledAt}
 use Rattle.std.specs.Iterator.{YieldsThen}

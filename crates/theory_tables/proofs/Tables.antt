@@ -1,9 +1,5 @@
 -- The law of a table: the answer of its rows, tested one after the other, is the table's in plain logic. And a table in two parts. Assumes nothing.
-use mathlib.Core.Path.{◌≡◌, refl, ap, ◌∙◌}
-use mathlib.Core.Logic.{◌⊎◌, inl, inr, ⊎_elim}
-use mathlib.Core.List.{List, [], ◌∷◌, ◌++◌, append-nil}
-use Prim.Native.Nat.{ℕ, ◌<◌}
-use native.Mathlib.Omega.{arith}
+use Rattle.std.proofs.Common.{◌≡◌, refl, ap, ◌∙◌, ◌⊎◌, inl, inr, ⊎_elim, List, [], ◌∷◌, ◌++◌, append-nil, ℕ, ◌<◌, arith}
 use Rattle.theory_tables.specs.Rows.{Row, NoRow, Given, ByTheTable, place_in, first_row}
 use Rattle.theory_tables.proofs.Bools.{true_or_false}
 use Rattle.theory_tables.proofs.Decided.{applies_so, applies_is, never_so, never_is}

@@ -1,9 +1,5 @@
 -- A table tested row by row: what is left of it, where the rows before do not apply, has the answer of the whole. Assumes nothing.
-use mathlib.Core.Path.{◌≡◌, ap, sym, ◌∙◌}
-use mathlib.Core.Bool.{true, false}
-use mathlib.Core.List.{List, [], ◌∷◌}
-use Prim.Native.Nat.{ℕ}
-use Rattle.std.specs.Prelude.{Some, None}
+use Rattle.std.proofs.Common.{◌≡◌, ap, sym, ◌∙◌, true, false, List, [], ◌∷◌, ℕ, Some, None}
 use Rattle.theory_tables.specs.First.{found_of}
 use Rattle.theory_tables.specs.Condition.{Condition, decide}
 use Rattle.theory_tables.specs.Rows.{Row, row, first, applies, place_in, first_row}

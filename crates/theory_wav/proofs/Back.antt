@@ -1,14 +1,8 @@
 -- A block of bytes in and out again is itself. Assumes nothing.
-use mathlib.Core.Path.{◌≡◌, refl, sym, ap, ◌∙◌, subst}
-use mathlib.Core.Logic.{inl, inr}
-use mathlib.Core.List.{List, [], ◌∷◌, ◌++◌, append_assoc}
-use Prim.Native.Nat.{ℕ, zero, suc, ◌+◌, ◌*◌, ◌/◌, ◌%◌, ◌≤◌, ◌<◌}
-use native.Mathlib.Nat.{eq-or-lt_of_le, le_of_suc-le-suc, le_of_lt}
-use native.Mathlib.Omega.{arith}
-use native.Mathlib.Numerals.{add-one}
-use lib.ListN.{length, get_or, take, get_or-append}
-use lib.Seq.{get_or_at, take-suc}
-use lib.Ieee.{nan}
+use Rattle.std.proofs.Common.{◌≡◌, refl, sym, ap, ◌∙◌, subst, inl, inr, List, [], ◌∷◌, ◌++◌, append_assoc, ℕ, zero, suc, ◌+◌, ◌*◌, ◌/◌, ◌%◌, ◌≤◌, ◌<◌, eq-or-lt_of_le, le_of_suc-le-suc, le_of_lt, arith, add-one, length, get_or, take, take-suc}
+use Rattle.std.specs.Float.{nan}
+use lib.ListN.{get_or-append}
+use lib.Seq.{get_or_at}
 use Rattle.wav_bytes.specs.Bytes.{two_at}
 use Rattle.wav_samples.specs.Sample.{sample_out}
 use Rattle.std.specs.Int.{w16, cast_signed, cast_unsigned}

@@ -1,7 +1,5 @@
 -- The statements of specs/Evidence.antt, each closed by the name of its proof. Assumes nothing.
-use mathlib.Core.Path.{refl}
-use Prim.Native.Nat.{◌*◌}
-use native.Mathlib.Nat.{le_refl}
+use Rattle.std.proofs.Common.{refl, ◌*◌, le_refl}
 use lib.Ieee.{up, down}
 use lib.Ieee.Fits.{down_pos}
 use lib.Ieee.Nearest.{closest}

@@ -1,12 +1,9 @@
 -- A sample in is s / 32768 exactly, and comes out again as it went in. Assumes nothing.
-use mathlib.Core.Path.{◌≡◌, sym, ap, ◌∙◌}
-use mathlib.Core.Bool.{Bool, true, false}
-use Prim.Native.Nat.{ℕ, suc, ◌*◌, ◌/◌, ◌^◌, ◌≤◌, compare, min}
-use native.Mathlib.Nat.{lt_of_le_of_lt, mul-one, mul_assoc, mul-le-mul_right, min-eq_left, div-one, mod-one}
-use native.Mathlib.Omega.{arith}
-use lib.Dec.{lit<}
-use lib.IntN.{pos, negsuc}
-use lib.Ieee.{Float, binary32, nearest, round}
+use Rattle.std.proofs.Common.{◌≡◌, sym, ap, ◌∙◌, Bool, true, false, ℕ, suc, ◌*◌, ◌/◌, ◌^◌, ◌≤◌, min, lt_of_le_of_lt, mul-one, mul_assoc, mul-le-mul_right, div-one, arith, lit<, pos, negsuc, Float}
+use Rattle.std.specs.Float.{binary32}
+use Prim.Native.Nat.{compare}
+use native.Mathlib.Nat.{min-eq_left, mod-one}
+use lib.Ieee.{nearest, round}
 use lib.Ieee.Exact.{HasValue, round_exact}
 use lib.Ieee.Nearest.{closest, closest_same}
 use Rattle.wav_samples.specs.Sample.{sample_in, steps_of, held_of, sample_out}

@@ -1,14 +1,8 @@
 -- The decibels of effects whose stages have settings in their ranges, as specs/AmplitudesIn.antt states them. Assumes nothing.
-use mathlib.Core.Path.{◌≡◌, refl, ap, sym, ◌∙◌, subst}
-use mathlib.Core.Bool.{Bool, true, ◌&&◌, and-eq-true_iff}
-use Prim.Native.Nat.{ℕ, suc, ◌+◌, ◌≤◌, ◌<◌}
-use native.Mathlib.Omega.{arith}
-use lib.Dec.{T, leb, leb→le}
-use lib.IntN.{ℤ, pos, negsuc}
-use lib.Signed.{le_z, ◌≤ℤ◌}
-use lib.ListN.{length, length-append}
-use lib.Ieee.{Float, binary32, binary64}
-use borrow.Author.Tests.{le-ltb}
+use Rattle.std.proofs.Common.{◌≡◌, refl, ap, sym, ◌∙◌, subst, Bool, true, ◌&&◌, ℕ, suc, ◌+◌, ◌≤◌, ◌<◌, arith, T, leb, leb→le, ℤ, pos, negsuc, ◌≤ℤ◌, length, length-append, Float, le-ltb}
+use Rattle.std.specs.Float.{binary32, binary64}
+use mathlib.Core.Bool.{and-eq-true_iff}
+use lib.Signed.{le_z}
 use Rattle.float.specs.Literal.{literal}
 use Rattle.float.specs.Finite.{finite_of}
 use Rattle.decibels.specs.Amplitude.{amplitude_of}

@@ -1,12 +1,6 @@
 -- Every accepted step is whole, as specs/WholeSteps.antt states it. Assumes nothing.
-use mathlib.Core.Path.{◌≡◌, refl, ap, sym, ◌∙◌, subst}
-use mathlib.Core.List.{List, [], ◌∷◌, ◌++◌}
-use Prim.Native.Nat.{ℕ, zero, suc, ◌+◌, ◌*◌, ◌-◌, ◌≤◌, ◌<◌}
-use native.Mathlib.Omega.{arith}
+use Rattle.std.proofs.Common.{◌≡◌, refl, ap, sym, ◌∙◌, subst, List, [], ◌∷◌, ◌++◌, ℕ, zero, suc, ◌+◌, ◌*◌, ◌-◌, ◌≤◌, ◌<◌, arith, Float, length, take, drop, take_at, drop_at, length-take-le}
 use native.Mathlib.Nat.{sub-zero}
-use lib.Ieee.{Float}
-use lib.ListN.{length, take, drop}
-use lib.Seq.{take_at, drop_at, length-take-le}
 use Rattle.frame.specs.declared.Frame.{Frame}
 use Rattle.line.specs.Held.{Held, holds, front, back, joined, Ran, ran}
 use Rattle.line.specs.Frames.{frame_at}

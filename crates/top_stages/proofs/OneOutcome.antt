@@ -1,5 +1,5 @@
 -- The promise of `Tops::of` admits one outcome. Assumes nothing.
-use mathlib.Core.Path.{sym, ◌∙◌}
+use Rattle.std.proofs.Common.{sym, ◌∙◌}
 use Rattle.float.proofs.Outcome.{Single}
 use Rattle.top_stages.proofs.Tops as tops
 

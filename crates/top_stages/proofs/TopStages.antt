@@ -1,15 +1,7 @@
 -- Laws of the top stages: their places rise and end at the count, and the list of places that `Tops::of` writes. Assumes nothing.
-use mathlib.Core.Path.{◌≡◌, refl, ap, sym, ◌∙◌}
-use mathlib.Core.Bool.{Bool}
-use mathlib.Core.List.{List}
-use Prim.Native.Nat.{ℕ, zero, suc, ◌+◌, ◌≤◌, ◌<◌}
-use native.Mathlib.Omega.{arith}
-use native.Mathlib.Numerals.{add-one}
+use Rattle.std.proofs.Common.{◌≡◌, refl, ap, sym, ◌∙◌, Bool, List, ℕ, zero, suc, ◌+◌, ◌≤◌, ◌<◌, arith, add-one, leb, length, get_or, set, length-set, get_or-set_other, leb-true, leb-false, le-leb}
 use native.Mathlib.Decide.{ℕ_discrete, dec_lt}
-use lib.Dec.{leb}
-use lib.ListN.{length, get_or, set, length-set}
-use lib.Seq.{get_or-set_other}
-use borrow.Author.Tests.{leb-true, leb-false, le-leb, lt-leb}
+use borrow.Author.Tests.{lt-leb}
 use Rattle.memories.specs.Sizes.{places}
 use Rattle.stage.specs.declared.setup.Setup.{Setup}
 use Rattle.stage.specs.Setup.{stage_at, used_of, next_place}

@@ -1,5 +1,5 @@
 -- Each public function's promise admits one outcome. Assumes nothing.
-use mathlib.Core.Path.{sym, ◌∙◌}
+use Rattle.std.proofs.Common.{sym, ◌∙◌}
 use Rattle.float.proofs.Outcome.{Single}
 use Rattle.wav_bytes.proofs.two_at as two-at
 use Rattle.wav_bytes.proofs.four_at as four-at

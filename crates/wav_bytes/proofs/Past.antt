@@ -1,8 +1,6 @@
 -- Past the end every byte is 0, so a place may be held to any at or past the end. Assumes nothing.
-use Rattle.std.proofs.Common.{◌≡◌, ℕ, ◌≤◌, List, length, get_or, ap, ◌∙◌, sym, arith}
+use Rattle.std.proofs.Common.{◌≡◌, ℕ, ◌≤◌, List, length, get_or, ap, ◌∙◌, sym, arith, inl, inr, min}
 use Rattle.std.proofs.lemmas.Bool.{cases_lt}
-use mathlib.Core.Logic.{inl, inr}
-use Prim.Native.Nat.{min}
 use lib.ListN.{get_or-eq_default}
 
 pub held_past : (bytes : List ℕ) (i m : ℕ) → length bytes ≤ m → get_or bytes (min i m) 0 ≡ get_or bytes i 0

@@ -1,5 +1,5 @@
 -- Each public function's promise admits one outcome. Assumes nothing.
-use mathlib.Core.Path.{sym, ◌∙◌}
+use Rattle.std.proofs.Common.{sym, ◌∙◌}
 use Rattle.float.proofs.Outcome.{Single}
 use Rattle.wav_header.proofs.HeaderRefusal.number as number
 use Rattle.wav_header.proofs.read as read

@@ -1,13 +1,7 @@
 -- One sample after the other, into samples or into bytes. Assumes nothing.
-use mathlib.Core.Path.{◌≡◌, refl, sym, ap, ◌∙◌}
-use mathlib.Core.List.{List, [], ◌∷◌, ◌++◌, append_assoc}
-use Prim.Native.Nat.{ℕ, zero, suc, ◌+◌, ◌*◌, ◌<◌}
-use native.Mathlib.Nat.{mul-suc}
-use native.Mathlib.Numerals.{add-one}
-use native.Mathlib.Omega.{arith}
-use lib.Ieee.{Float, nan}
-use lib.ListN.{length, set, drop, get_or, length-append}
-use lib.Seq.{drop-cons, set_at}
+use Rattle.std.proofs.Common.{◌≡◌, refl, sym, ap, ◌∙◌, List, [], ◌∷◌, ◌++◌, append_assoc, ℕ, zero, suc, ◌+◌, ◌*◌, ◌<◌, mul-suc, add-one, arith, Float, length, set, drop, get_or, length-append, drop-cons}
+use Rattle.std.specs.Float.{nan}
+use lib.Seq.{set_at}
 use Rattle.wav_samples.specs.Frames.{sample_at, samples_of, low_of, high_of, bytes_of}
 
 -- the place after sample n's two bytes

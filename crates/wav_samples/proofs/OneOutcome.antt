@@ -1,5 +1,5 @@
 -- Each public function's promise admits one outcome: the answer, and what is left of what was lent. Assumes nothing.
-use mathlib.Core.Path.{sym, ◌∙◌}
+use Rattle.std.proofs.Common.{sym, ◌∙◌}
 use Rattle.float.proofs.Outcome.{Single, SingleLent}
 use Rattle.wav_samples.proofs.sample as sample
 use Rattle.wav_samples.proofs.frames as frames

@@ -1,13 +1,7 @@
 -- 16-bit numbers with a sign, as the machine holds them. Assumes nothing.
-use mathlib.Core.Path.{◌≡◌, refl, ap, ◌∙◌}
-use mathlib.Core.Bool.{Bool, true, false}
-use Prim.Native.Nat.{ℕ, zero, suc, ◌<◌, ◌≤◌}
-use native.Mathlib.Omega.{arith}
-use lib.IntN.{ℤ, pos, negsuc}
+use Rattle.std.proofs.Common.{◌≡◌, refl, ap, ◌∙◌, Bool, true, false, ℕ, zero, suc, ◌<◌, ◌≤◌, arith, ℤ, pos, negsuc, w16, to_z, of_z, to_z-of_z}
 use lib.Signed.{mag}
-use mir.Syntax.{w16}
-use mir.Val.{to_z, of_z}
-use mir.Facts.{to_z-of_z, sfits_to_z}
+use mir.Facts.{sfits_to_z}
 use Rattle.std.specs.Int.{cast_signed}
 use Rattle.wav_samples.specs.Sample.{held_of}
 

@@ -1,23 +1,16 @@
 -- A float's magnitude times 32768, to the nearest whole number, by the float's fields. Assumes nothing.
-use mathlib.Core.Path.{◌≡◌, refl, sym, ap, ◌∙◌, subst}
-use mathlib.Core.Bool.{Bool, true, false, cond}
-use Prim.Native.Nat.{ℕ, zero, suc, ◌+◌, ◌-◌, ◌*◌, ◌/◌, ◌%◌, ◌^◌, ◌≤◌, ◌<◌, min}
-use native.Mathlib.Nat.{le_trans, le-add_right, min-eq_left, min-eq_right, le_of_eq, lt_of_lt_of_le, lt_of_le_of_lt, le_of_lt, mul-one, mul_comm, mul_assoc, mul_right_comm, mul-le-mul_left, mul-le-mul_right, mul-pos}
-use native.Mathlib.Omega.{arith}
-use borrow.Author.Tests.{eqb-true, eqb-false, ne_eqb}
+use Rattle.std.proofs.Common.{◌≡◌, refl, sym, ap, ◌∙◌, subst, Bool, true, false, cond, ℕ, zero, suc, ◌+◌, ◌-◌, ◌*◌, ◌/◌, ◌%◌, ◌^◌, ◌≤◌, ◌<◌, min, le_trans, le-add_right, le_of_eq, lt_of_lt_of_le, lt_of_le_of_lt, le_of_lt, mul-one, mul_comm, mul_assoc, mul_right_comm, mul-le-mul_left, mul-le-mul_right, mul-pos, arith, eqb-true, ne_eqb, T, leb, lit<, lit≤, eqb, ℤ, pos, negsuc, pow-add, pow_pos, pow_mono, shl_lt, Float, w16, to_z, of_z}
+use Rattle.std.specs.Float.{nan, binary32}
+use native.Mathlib.Nat.{min-eq_left, min-eq_right}
+use borrow.Author.Tests.{eqb-false}
 use lib.Arith.{lt_of_le-ne}
-use lib.Dec.{T, leb, lit<, lit≤, eqb}
-use lib.IntN.{ℤ, pos, negsuc}
 use lib.Signed.{mag}
-use lib.Pow.{pow-add, pow_pos, pow_mono, shl_lt}
-use lib.Ieee.{Float, nan, inf, fin, binary32, up, down, fits, of_bits, to_bits, of_fields, round, of_int, div, unlike}
+use lib.Ieee.{inf, fin, up, down, fits, of_bits, to_bits, of_fields, round, of_int, div, unlike}
 use lib.Ieee.Bits.{of_bits-to_bits}
 use lib.Ieee.Exact.{HasValue, round_exact}
 use lib.Ieee.Fits.{down_pos}
 use lib.Ieee.Nearest.{closest, closest_same, closest_mono}
 use lib.Ieee.Scale.{round_same}
-use mir.Syntax.{w16}
-use mir.Val.{to_z, of_z}
 use Rattle.rounding.proofs.Quotients.{closest_zero, closest_le}
 use Rattle.rounding.proofs.Rounding.{low_field, high_field}
 use Rattle.wav_samples.specs.Sample.{sample_in, steps_of, negative, held_of, sample_out}

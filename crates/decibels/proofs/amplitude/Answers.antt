@@ -1,6 +1,6 @@
-use mathlib.Core.Path.{refl, sym, ◌∙◌}
-use mathlib.Core.Bool.{true≢false}
-use lib.Ieee.{binary32, of_bits, round}
+use Rattle.std.proofs.Common.{refl, sym, ◌∙◌, true≢false}
+use Rattle.std.specs.Float.{binary32}
+use lib.Ieee.{of_bits, round}
 use Rattle.float.specs.Literal.{literal}
 use Rattle.decibels.specs.Amplitude.{amplitudes}
 use Rattle.decibels.proofs.Places.{amplitude_entry, too_low, found}

@@ -1,5 +1,6 @@
-use mathlib.Core.Path.{refl, ◌∙◌}
-use lib.Ieee.{nan, binary64, of_bits}
+use Rattle.std.proofs.Common.{refl, ◌∙◌}
+use Rattle.std.specs.Float.{nan, binary64}
+use lib.Ieee.{of_bits}
 use Rattle.decibels.specs.Amplitude.{eq_amplitudes}
 use Rattle.decibels.proofs.Places.{eq_amplitude_entry, found}
 use Rattle.decibels.proofs.eq_amplitude.Goals as goal

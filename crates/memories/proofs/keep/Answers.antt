@@ -1,5 +1,5 @@
 -- `keep` meets its contract: the second frame is put where the first is already in place. Assumes nothing.
-use mathlib.Core.Path.{refl}
+use Rattle.std.proofs.Common.{refl}
 use Rattle.memories.specs.Kinds.{remember}
 use Rattle.memories.proofs.keep.Goals as goal
 

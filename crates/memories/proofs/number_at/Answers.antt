@@ -1,4 +1,4 @@
-use native.Mathlib.Omega.{arith}
+use Rattle.std.proofs.Common.{arith}
 use Rattle.memories.proofs.number_at.Goals as goal
 
 pub returns : goal.returns

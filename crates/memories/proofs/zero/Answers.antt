@@ -1,5 +1,5 @@
 -- `zero` meets its contract: the source's literals are the definition's. Assumes nothing.
-use mathlib.Core.Path.{refl}
+use Rattle.std.proofs.Common.{refl}
 use lib.Ieee.{of_bits, round}
 use Rattle.float.specs.Literal.{literal}
 use Rattle.memories.specs.Memories.{zero_memories}

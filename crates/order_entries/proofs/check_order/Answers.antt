@@ -1,9 +1,5 @@
 -- `check_order` meets its contract. The loop's invariant: so many entries are read and counted, and none of them is stuck (proofs/Counting.antt). The measure is what is unread. Assumes nothing.
-use mathlib.Core.Path.{◌≡◌, ap, sym, ◌∙◌}
-use mathlib.Core.Bool.{false}
-use native.Mathlib.Omega.{arith}
-use Prim.Native.Nat.{◌≤◌}
-use lib.ListN.{length, length-set}
+use Rattle.std.proofs.Common.{◌≡◌, ap, sym, ◌∙◌, false, arith, ◌≤◌, length, length-set}
 use lib.Seq.{set_out}
 use Rattle.std.specs.Result.{is_err}
 use Rattle.order_entries.specs.Entries.{rule_of}

@@ -1,6 +1,5 @@
 -- `check_order` meets its contract. The loop's invariant: so many entries are read and counted, and none of them is stuck (proofs/Counting.antt). The measure is what is unread. Assumes nothing.
-use mathlib.Core.Path.{◌≡◌}
-use lib.ListN.{length}
+use Rattle.std.proofs.Common.{◌≡◌, length}
 use Rattle.memories.specs.Sizes.{places}
 use Rattle.order_entries.proofs.Counting.{Counted}
 use Rattle.order_entries.proofs.check_order.Given as goal

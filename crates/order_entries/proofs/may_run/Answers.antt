@@ -1,7 +1,6 @@
 -- `may_run` meets its contract: it tests the rules row by row, and at each return those before it are past. Assumes nothing.
-use Rattle.std.proofs.Common.{ℕ, ◌<◌, List, refl, arith, get_or}
-use lib.ListN.{drop}
-use borrow.Author.Tests.{le-leb, lt-leb}
+use Rattle.std.proofs.Common.{ℕ, ◌<◌, List, refl, arith, get_or, drop, le-leb}
+use borrow.Author.Tests.{lt-leb}
 use Rattle.theory_tables.specs.Condition.{Holds}
 use Rattle.theory_tables.proofs.Decided.{is, is_not}
 use Rattle.theory_tables.proofs.Tested.{Gives, row_hit, row_pass, row_none}

@@ -1,7 +1,6 @@
 -- The all-passes before k are done, and those from k on are still to run. Assumes nothing.
-use Rattle.std.proofs.Common.{◌≡◌, List, ◌+◌, take, sum}
+use Rattle.std.proofs.Common.{◌≡◌, List, ◌+◌, take, sum, Float}
 use Rattle.std.proofs.Math.Seq.{slice}
-use Rattle.std.specs.Prelude.{Float}
 use Rattle.line.specs.Held.{holds}
 use Rattle.reverb_tuning.specs.Tuning.{reverb_lines}
 use Rattle.reverb.specs.Reverb.{heard, pass_of, lines_in_turn}

@@ -1,10 +1,8 @@
 -- `process` meets its contract: the left side has the fronts, the right side the rests. Assumes nothing.
-use Rattle.std.proofs.Common.{◌≡◌, ℕ, ◌+◌, ◌-◌, ◌≤◌, List, ◌++◌, length, take, drop, arith, ◌∙◌}
+use Rattle.std.proofs.Common.{◌≡◌, ℕ, ◌+◌, ◌-◌, ◌≤◌, List, ◌++◌, length, take, drop, arith, ◌∙◌, length-take-le, Float}
 use lib.Ieee.{of_bits, round}
-use lib.Seq.{length-take-le}
 use Rattle.std.specs.List.{sum}
 use Rattle.std.proofs.lemmas.List.Sums.{sum_by-take-drop}
-use Rattle.std.specs.Prelude.{Float}
 use Rattle.float.specs.Literal.{literal}
 use Rattle.line.specs.Held.{holds}
 use Rattle.line.proofs.Lent.{lent_length}

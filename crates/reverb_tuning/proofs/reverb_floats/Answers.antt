@@ -1,4 +1,4 @@
-use mathlib.Core.Path.{sym, ◌∙◌}
+use Rattle.std.proofs.Common.{sym, ◌∙◌}
 use Rattle.reverb_tuning.proofs.Tunings.{floats_are}
 use Rattle.reverb_tuning.proofs.reverb_floats.Goals as goal
 

@@ -1,7 +1,5 @@
-use mathlib.Core.Path.{◌≡◌, sym, ap, ◌∙◌}
-use Prim.Native.Nat.{ℕ, ◌+◌, ◌-◌}
-use native.Mathlib.Omega.{arith}
-use lib.ListN.{get_or, get_or-eq_default}
+use Rattle.std.proofs.Common.{◌≡◌, sym, ap, ◌∙◌, ℕ, ◌+◌, ◌-◌, arith, get_or}
+use lib.ListN.{get_or-eq_default}
 use Rattle.reverb_tuning.specs.Tuning.{reverb_lines}
 use Rattle.reverb_tuning.proofs.Tunings.{lines_length, left_line, right_line}
 use Rattle.reverb_tuning.proofs.reverb_line.Goals as goal

@@ -1,9 +1,8 @@
 -- The pairs that `all` goes through are those of the two lists. Assumes nothing.
-use Rattle.std.proofs.Common.{rules, tests}
+use Rattle.std.proofs.Common.{rules, tests, ◌∙◌, ne_eqb}
+use Rattle.std.specs.Float.{binary32}
 use Rattle.std.proofs.lemmas.Iterator.{YieldsList-from_slice, YieldsList-from_zip, cases_from_all}
-use mathlib.Core.Path.{◌∙◌}
-use borrow.Author.Tests.{ne_eqb}
-use lib.Ieee.{binary32, to_bits}
+use lib.Ieee.{to_bits}
 use Rattle.same_slices.proofs.Sames.{Same, Other, other_length, decided}
 use Rattle.same_slices.proofs.floats.Goals as goal
 

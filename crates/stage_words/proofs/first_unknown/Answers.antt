@@ -1,12 +1,6 @@
 -- What `find` finds is the first place below the count whose words are no stage. Assumes nothing.
-use mathlib.Core.Path.{◌≡◌, sym, ◌∙◌}
-use mathlib.Core.Bool.{Bool, true, false}
-use Prim.Native.Nat.{ℕ, ◌≤◌, ◌<◌}
-use native.Mathlib.Omega.{arith}
-use borrow.Author.Tests.{tests}
-use Rattle.std.proofs.Common.{rules}
+use Rattle.std.proofs.Common.{◌≡◌, sym, ◌∙◌, Bool, true, false, ℕ, ◌≤◌, ◌<◌, arith, tests, rules, Option, Some, None, MatchOption}
 use Rattle.std.proofs.lemmas.Iterator.{first_from_Range}
-use Rattle.std.specs.Prelude.{Option, Some, None, MatchOption}
 use Rattle.std.specs.Option.{unwrap_or}
 use Rattle.theory_tables.specs.First.{first_of}
 use Rattle.theory_tables.proofs.Firsts.{first_is, first_none}

@@ -1,5 +1,5 @@
 -- The words from n on are 0, so that the length is that of the first n. Assumes nothing.
-use mathlib.Core.Path.{◌≡◌}
+use Rattle.std.proofs.Common.{◌≡◌}
 use Rattle.stage_words.specs.Words.{word_count, length_from}
 use Rattle.stage_words.proofs.length_from.Given as goal
 

@@ -1,12 +1,7 @@
 -- `from_fn` calls its closure at each place in turn, and the closure gives the place's slot. Assumes nothing.
-use mathlib.Core.Path.{◌≡◌, subst, ◌∙◌}
-use mathlib.Core.List.{List}
-use Prim.Native.Nat.{ℕ, zero, suc, ◌+◌, ◌≤◌, ◌<◌}
-use native.Mathlib.Omega.{arith}
+use Rattle.std.proofs.Common.{◌≡◌, subst, ◌∙◌, List, ℕ, zero, suc, ◌+◌, ◌≤◌, ◌<◌, arith, get_or, rules}
 use native.Mathlib.Decide.{ℕ_discrete}
-use lib.ListN.{get_or}
 use denote.Param.Members.{Mut, Called}
-use Rattle.std.proofs.Common.{rules}
 use Rattle.std.specs.Array.{IsFromFnResultFrom}
 use Rattle.memories.specs.Sizes.{places}
 use Rattle.stage.specs.Setup.{unused}

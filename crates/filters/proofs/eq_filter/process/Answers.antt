@@ -1,5 +1,5 @@
 -- The promises of the calls, the last first, turn the result into the definition; the gain is an i32 on its way to `calculate`. Assumes nothing.
-use mir.Syntax.{w32}
+use Rattle.std.proofs.Common.{w32}
 use mir.ValLaws.{to_z-of_z}
 use Rattle.filters.specs.EqFilter.{eq_of}
 use Rattle.filters.proofs.eq_filter.process.Goals as goal

@@ -1,4 +1,4 @@
-use mathlib.Core.Path.{refl}
+use Rattle.std.proofs.Common.{refl}
 use Rattle.frame.specs.Operations.{from_mono_of}
 use Rattle.frame.proofs.Frame.from_mono.Goals as goal
 

@@ -1,4 +1,4 @@
-use mathlib.Core.Path.{refl}
+use Rattle.std.proofs.Common.{refl}
 use Rattle.frame.specs.Operations.{mul_of}
 use Rattle.frame.proofs.Frame.mul.Goals as goal
 

@@ -1,4 +1,4 @@
-use mathlib.Core.Path.{refl}
+use Rattle.std.proofs.Common.{refl}
 use Rattle.frame.specs.Operations.{new_of}
 use Rattle.frame.proofs.Frame.new.Goals as goal
 

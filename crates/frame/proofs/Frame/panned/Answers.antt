@@ -1,4 +1,4 @@
-use mathlib.Core.Path.{sym}
+use Rattle.std.proofs.Common.{sym}
 use lib.Ieee.{of_bits, round}
 use Rattle.float.specs.Literal.{literal}
 use Rattle.frame.specs.Panning.{sqrt2, rightward}

@@ -1,5 +1,6 @@
-use native.Mathlib.Omega.{arith}
-use lib.Ieee.{nan, div, of_bits}
+use Rattle.std.proofs.Common.{arith}
+use Rattle.std.specs.Float.{nan}
+use lib.Ieee.{div, of_bits}
 use Rattle.line.proofs.floats.float_at.Goals as goal
 
 pub returns : goal.returns

@@ -1,6 +1,6 @@
-use Prim.Native.Nat.{◌+◌, ◌*◌}
-use native.Mathlib.Omega.{arith}
-use lib.Ieee.{nan, div, of_bits}
+use Rattle.std.proofs.Common.{◌+◌, ◌*◌, arith}
+use Rattle.std.specs.Float.{nan}
+use lib.Ieee.{div, of_bits}
 use lib.ListN.{get_or-eq_default}
 use Rattle.frame.specs.Operations.{from_mono_of}
 use Rattle.line.specs.Frames.{frame_at}

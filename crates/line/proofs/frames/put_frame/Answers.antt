@@ -1,5 +1,4 @@
-use Prim.Native.Nat.{◌+◌, ◌*◌}
-use native.Mathlib.Omega.{arith}
+use Rattle.std.proofs.Common.{◌+◌, ◌*◌, arith}
 use lib.Seq.{set_out}
 use Rattle.line.specs.Frames.{frame_in}
 use Rattle.line.proofs.frames.put_frame.Goals as goal

@@ -1,7 +1,5 @@
 -- `next_position` meets its contract: the definition by its test. Assumes nothing.
-use Prim.Native.Nat.{◌+◌}
-use native.Mathlib.Omega.{arith}
-use borrow.Author.Tests.{lt-ltb, le-ltb}
+use Rattle.std.proofs.Common.{◌+◌, arith, lt-ltb, le-ltb}
 use Rattle.line.specs.Position.{next_position}
 use Rattle.line.proofs.position.next_position.Goals as goal
 

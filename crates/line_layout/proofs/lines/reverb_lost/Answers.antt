@@ -1,12 +1,6 @@
 -- `lines::reverb_lost` meets its contract: some line, or none, has the position off it. Assumes nothing.
-use mathlib.Core.Path.{◌≡◌, sym}
-use mathlib.Core.Bool.{Bool, true, false}
-use mathlib.Core.List.{List}
-use Prim.Native.Nat.{ℕ, ◌<◌}
-use lib.Dec.{leb}
-use lib.ListN.{get_or}
+use Rattle.std.proofs.Common.{◌≡◌, sym, Bool, true, false, List, ℕ, ◌<◌, leb, get_or, rules}
 use Rattle.std.proofs.iter.runs.Sources.{ranges}
-use Rattle.std.proofs.Common.{rules}
 use Rattle.std.specs.Bool.{MatchBool}
 use Rattle.reverb_tuning.specs.Tuning.{line_count, reverb_lines}
 use Rattle.reverb_tuning.proofs.Tunings.{lines_length}

@@ -1,5 +1,5 @@
 -- The promises of the calls, the last first, turn the result into the definition; the drive is an i32 on its way to `amplitude`. Assumes nothing.
-use mir.Syntax.{w32}
+use Rattle.std.proofs.Common.{w32}
 use mir.ValLaws.{to_z-of_z}
 use Rattle.plain_effects.specs.Distortion.{distortion_of}
 use Rattle.plain_effects.proofs.distortion.process.Goals as goal

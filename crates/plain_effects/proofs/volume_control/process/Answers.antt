@@ -1,5 +1,5 @@
 -- The volume is an i32 on its way to `amplitude`, and read back as the same number. Assumes nothing.
-use mir.Syntax.{w32}
+use Rattle.std.proofs.Common.{w32}
 use mir.ValLaws.{to_z-of_z}
 use Rattle.plain_effects.specs.VolumeControl.{volume_of}
 use Rattle.plain_effects.proofs.volume_control.process.Goals as goal

@@ -1,7 +1,5 @@
 -- `call::check` meets its contract: what is worked out for the table is what the table asks for. Assumes nothing.
-use mathlib.Core.Path.{◌≡◌, ap, ◌∙◌}
-use native.Mathlib.Omega.{arith}
-use lib.ListN.{get_or}
+use Rattle.std.proofs.Common.{◌≡◌, ap, ◌∙◌, arith, get_or}
 use Rattle.line_layout.specs.Layout.{needed_of}
 use Rattle.line_layout.proofs.LineStarts.{starts_at}
 use Rattle.top_stages.specs.declared.Tops.{Tops}

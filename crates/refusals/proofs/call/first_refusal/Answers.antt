@@ -1,10 +1,5 @@
 -- `call::first_refusal` meets its contract: it asks the table part by part, and at each return the parts before it are past. Assumes nothing.
-use mathlib.Core.Path.{◌≡◌, refl, ◌∙◌}
-use mathlib.Core.List.{List}
-use Prim.Native.Nat.{ℕ}
-use native.Mathlib.Omega.{arith}
-use lib.Ieee.{Float}
-use lib.ListN.{length, drop}
+use Rattle.std.proofs.Common.{◌≡◌, refl, ◌∙◌, List, ℕ, arith, Float, length, drop}
 use Rattle.std.proofs.lemmas.Result.{err_from_is_err_and}
 use Rattle.theory_tables.specs.Rows.{first_row}
 use Rattle.theory_tables.proofs.Tested.{Gives}

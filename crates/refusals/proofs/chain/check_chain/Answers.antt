@@ -1,11 +1,5 @@
 -- `chain::check_chain` meets its contract: it tests the table row by row, and at each return the rows before it are past. Assumes nothing.
-use mathlib.Core.Path.{◌≡◌, refl}
-use mathlib.Core.Logic.{inl, inr, ⊎_elim}
-use Prim.Native.Nat.{ℕ, ◌≤◌}
-use native.Mathlib.Omega.{arith}
-use lib.ListN.{drop}
-use borrow.Author.Tests.{lt-ltb, le-ltb}
-use Rattle.std.specs.Prelude.{None}
+use Rattle.std.proofs.Common.{◌≡◌, refl, inl, inr, ⊎_elim, ℕ, ◌≤◌, arith, drop, lt-ltb, le-ltb, None}
 use Rattle.theory_tables.specs.First.{found_of}
 use Rattle.theory_tables.specs.Condition.{Condition, less, ◌or◌, decide}
 use Rattle.theory_tables.proofs.Decided.{is, is_not}

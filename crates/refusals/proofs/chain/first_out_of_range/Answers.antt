@@ -1,12 +1,6 @@
 -- `chain::first_out_of_range` meets its contract: it looks at each used place in turn. Assumes nothing.
-use mathlib.Core.Path.{refl, ◌∙◌}
-use mathlib.Core.Bool.{not}
-use lib.ListN.{take}
-use lib.Seq.{get_or-take}
+use Rattle.std.proofs.Common.{refl, ◌∙◌, not, take, get_or-take, arith, rules, tests}
 use Rattle.std.proofs.lemmas.List.{length-take}
-use native.Mathlib.Omega.{arith}
-use borrow.Author.Rules.{rules}
-use borrow.Author.Tests.{tests}
 use Rattle.std.proofs.lemmas.Iterator.{YieldsList-from_slice}
 use Rattle.std.proofs.lemmas.Iterator.Search.{position_from_yields_List}
 use Rattle.theory_tables.specs.Condition.{decide}

@@ -1,9 +1,5 @@
 -- `samples::check_samples` meets its contract: it tests the table's one row, which does not apply where no sample is left to look at. Assumes nothing.
-use Prim.Native.Nat.{ℕ}
-use mathlib.Core.List.{List}
-use lib.Ieee.{Float}
-use mathlib.Core.Path.{refl}
-use native.Mathlib.Omega.{arith}
+use Rattle.std.proofs.Common.{ℕ, List, Float, refl, arith}
 use Rattle.theory_tables.proofs.Decided.{is_not}
 use Rattle.theory_tables.proofs.Firsts.{some_none}
 use Rattle.theory_tables.proofs.Tested.{Gives, row_found, row_not_found, row_pass, row_none}

@@ -1,9 +1,6 @@
 -- `samples::first_bad` meets its contract: it looks at each sample from `from` on in turn. Assumes nothing.
-use mathlib.Core.Bool.{not}
-use lib.ListN.{get_or}
-use lib.Ieee.{nan}
-use borrow.Author.Rules.{rules}
-use borrow.Author.Tests.{tests}
+use Rattle.std.proofs.Common.{not, get_or, rules, tests}
+use Rattle.std.specs.Float.{nan}
 use Rattle.float.specs.Finite.{finite_of}
 use Rattle.theory_tables.proofs.Searches.{found_from_find}
 use Rattle.refusals.proofs.samples.first_bad.Goals as goal

@@ -1,8 +1,5 @@
 -- `shape::first_faulty` meets its contract: it looks at each number in turn. Assumes nothing.
-use mathlib.Core.Path.{refl, ap, ◌∙◌}
-use Prim.Native.Nat.{ℕ}
-use borrow.Author.Rules.{rules}
-use borrow.Author.Tests.{tests}
+use Rattle.std.proofs.Common.{refl, ap, ◌∙◌, ℕ, rules, tests}
 use Rattle.theory_tables.specs.First.{found_of}
 use Rattle.theory_tables.specs.Condition.{decide}
 use Rattle.theory_tables.proofs.Searches.{found_by_find}

@@ -1,9 +1,6 @@
 -- `shape::is_faulty` meets its contract: a branch for each way to be at fault. Assumes nothing.
-use mathlib.Core.Path.{◌≡◌, refl, ◌∙◌}
-use mathlib.Core.Bool.{◌||◌}
-use native.Mathlib.Omega.{arith}
-use lib.Dec.{leb}
-use borrow.Author.Tests.{le-leb, lt-leb}
+use Rattle.std.proofs.Common.{◌≡◌, refl, ◌∙◌, ◌||◌, arith, leb, le-leb}
+use borrow.Author.Tests.{lt-leb}
 use Rattle.theory_tables.specs.Condition.{decide, among}
 use Rattle.stage.specs.Setup.{used_of}
 use Rattle.refusals.specs.Shape.{last_of, outgrows, faulty}

@@ -1,9 +1,5 @@
 -- `shape::outgrows_an_owner` meets its contract: it looks at each number in turn. Assumes nothing.
-use mathlib.Core.Path.{refl, ◌∙◌}
-use Prim.Native.Nat.{ℕ}
-use native.Mathlib.Omega.{arith}
-use borrow.Author.Rules.{rules}
-use borrow.Author.Tests.{tests}
+use Rattle.std.proofs.Common.{refl, ◌∙◌, ℕ, arith, rules, tests}
 use Rattle.std.proofs.lemmas.Iterator.{YieldsList-from_range}
 use Rattle.std.proofs.lemmas.Iterator.Search.{any_from_yields_List}
 use Rattle.theory_tables.specs.Condition.{decide}

@@ -1,10 +1,5 @@
 -- `state::check_state` meets its contract: it tests the table row by row, and at each return the rows before it are past. Assumes nothing.
-use mathlib.Core.Path.{◌≡◌, refl}
-use mathlib.Core.List.{List}
-use Prim.Native.Nat.{ℕ, ◌≤◌, ◌/◌, ◌%◌}
-use lib.ListN.{drop}
-use borrow.Author.Tests.{lt-ltb, le-ltb, eq-eqb, ne_eqb}
-use Rattle.std.specs.Prelude.{None}
+use Rattle.std.proofs.Common.{◌≡◌, refl, List, ℕ, ◌≤◌, ◌/◌, ◌%◌, drop, lt-ltb, le-ltb, eq-eqb, ne_eqb, None}
 use Rattle.theory_tables.specs.First.{found_of}
 use Rattle.theory_tables.specs.Condition.{decide}
 use Rattle.theory_tables.proofs.Tested.{Gives, row_hit, row_found, row_not_found, row_pass, row_none}

@@ -1,7 +1,5 @@
 -- `state::first_ahead` meets its contract: it looks at each number in turn. Assumes nothing.
-use mathlib.Core.Path.{refl}
-use borrow.Author.Rules.{rules}
-use borrow.Author.Tests.{tests}
+use Rattle.std.proofs.Common.{refl, rules, tests}
 use Rattle.theory_tables.specs.Condition.{decide}
 use Rattle.theory_tables.proofs.Searches.{found_by_find}
 use Rattle.refusals.specs.Refusals.{ahead_at}

@@ -1,9 +1,6 @@
 -- `dispatch::{delay_stage, span, step}`, which call one another, meet their contracts. In `step` each kind's promise is the definition at that kind. Assumes nothing.
-use Rattle.std.proofs.Common.{◌≡◌, ℕ, min, length, sym, ap, ◌∙◌, arith, rules}
-use lib.ListN.{set}
+use Rattle.std.proofs.Common.{◌≡◌, ℕ, min, length, sym, ap, ◌∙◌, arith, rules, set, w32, SFits}
 use lib.Seq.{set_out}
-use mir.Syntax.{w32}
-use mir.Val.{SFits}
 use mir.ValLaws.{to_z-of_z}
 use Rattle.decibels.specs.Amplitude.{amplitude_of}
 use Rattle.line.specs.Held.{holds}

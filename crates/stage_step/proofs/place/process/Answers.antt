@@ -1,7 +1,5 @@
 -- `place::process` meets its contract: on a stretch of places within the list it is `step` with 3 depths left, and elsewhere nothing. Assumes nothing.
-use mathlib.Core.Path.{sym}
-use Prim.Native.Nat.{◌≤◌, ◌<◌}
-use native.Mathlib.Omega.{arith}
+use Rattle.std.proofs.Common.{sym, ◌≤◌, ◌<◌, arith}
 use Rattle.memories.specs.Sizes.{places}
 use Rattle.stage_step.proofs.Steps.{place_inside, place_empty, place_past}
 use Rattle.stage_step.proofs.place.process.Goals as goal

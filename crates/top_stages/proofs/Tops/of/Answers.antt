@@ -1,7 +1,5 @@
 -- `Tops::of` meets its contract. Each step of the loop writes one entry more, and at its end all are written. Assumes nothing.
-use mathlib.Core.Path.{◌≡◌, refl, ap, sym, ◌∙◌}
-use Prim.Native.Nat.{◌+◌, ◌<◌}
-use native.Mathlib.Omega.{arith}
+use Rattle.std.proofs.Common.{◌≡◌, refl, ap, sym, ◌∙◌, ◌+◌, ◌<◌, arith}
 use lib.ListN.{get_or-replicate}
 use Rattle.memories.specs.Sizes.{places}
 use Rattle.stage.specs.Setup.{next_place}

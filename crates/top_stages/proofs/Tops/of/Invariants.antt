@@ -1,6 +1,5 @@
 -- `Tops::of` meets its contract. The loop's invariant: `i` is the place of top stage n, of which there are at least n, and the entries up to n are written. The measure is what is left of the places. Assumes nothing.
-use mathlib.Core.Path.{◌≡◌}
-use Prim.Native.Nat.{◌-◌, ◌≤◌}
+use Rattle.std.proofs.Common.{◌≡◌, ◌-◌, ◌≤◌}
 use Rattle.stage.specs.Setup.{used_of}
 use Rattle.top_stages.specs.Tops.{top_at, tops_of}
 use Rattle.top_stages.proofs.TopStages.{Written}

@@ -1,9 +1,5 @@
 -- `frames::frames_in` meets its contract. Assumes nothing.
-use mathlib.Core.List.{◌++◌, append-nil}
-use mathlib.Core.Path.{◌≡◌, ap, ◌∙◌}
-use Prim.Native.Nat.{◌*◌}
-use native.Mathlib.Omega.{arith}
-use lib.ListN.{set, drop, take}
+use Rattle.std.proofs.Common.{◌++◌, append-nil, ◌≡◌, ap, ◌∙◌, ◌*◌, arith, set, drop, take}
 use Rattle.std.proofs.lemmas.List.{length-take-le, drop_all}
 use Rattle.wav_samples.specs.Frames.{whole_frames, sample_at, samples_of, samples_in}
 use Rattle.wav_samples.proofs.Blocks.{samples_none, samples_more}

@@ -1,7 +1,5 @@
 -- The first i samples are those of the bytes, and the rest is as it was. Assumes nothing.
-use mathlib.Core.List.{◌++◌}
-use mathlib.Core.Path.{◌≡◌}
-use lib.ListN.{drop}
+use Rattle.std.proofs.Common.{◌++◌, ◌≡◌, drop}
 use Rattle.wav_samples.specs.Frames.{samples_of}
 use Rattle.wav_samples.proofs.frames.frames_in.Given as goal
 

@@ -1,10 +1,6 @@
 -- `frames::frames_out` meets its contract. Assumes nothing.
-use mathlib.Core.List.{◌++◌}
-use mathlib.Core.Path.{◌≡◌, ap, ◌∙◌}
-use Prim.Native.Nat.{◌+◌, ◌*◌}
-use native.Mathlib.Omega.{arith}
-use lib.ListN.{set, drop, get_or}
-use lib.Ieee.{nan}
+use Rattle.std.proofs.Common.{◌++◌, ◌≡◌, ap, ◌∙◌, ◌+◌, ◌*◌, arith, set, drop, get_or}
+use Rattle.std.specs.Float.{nan}
 use Rattle.std.proofs.lemmas.List.{length-take-le, get_or-take}
 use Rattle.wav_samples.specs.Frames.{whole_frames, low_of, high_of, bytes_of, bytes_out}
 use Rattle.wav_samples.proofs.Blocks.{bytes_none, bytes_more}

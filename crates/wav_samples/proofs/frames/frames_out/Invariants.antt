@@ -1,8 +1,5 @@
 -- The first 2i bytes are those of i samples, and the rest is as it was. Assumes nothing.
-use mathlib.Core.List.{◌++◌}
-use mathlib.Core.Path.{◌≡◌}
-use Prim.Native.Nat.{◌*◌}
-use lib.ListN.{drop}
+use Rattle.std.proofs.Common.{◌++◌, ◌≡◌, ◌*◌, drop}
 use Rattle.wav_samples.specs.Frames.{bytes_of}
 use Rattle.wav_samples.proofs.frames.frames_out.Given as goal
 

@@ -1,8 +1,6 @@
 -- `frames::put_sample` meets its contract. Assumes nothing.
-use Rattle.std.proofs.Common.{◌≡◌, ◌<◌, ◌/◌, ◌%◌, arith}
+use Rattle.std.proofs.Common.{◌≡◌, ◌<◌, ◌/◌, ◌%◌, arith, w16, of_z}
 use lib.Signed.{mag}
-use mir.Syntax.{w16}
-use mir.Val.{of_z}
 use Rattle.wav_samples.specs.Frames.{low_of, high_of}
 use Rattle.wav_samples.specs.Sample.{sample_out}
 use Rattle.wav_samples.proofs.Signed as sg

@@ -1,7 +1,5 @@
 -- `frames::sample_at` meets its contract. Assumes nothing.
-use mathlib.Core.Path.{ap, ◌∙◌}
-use mir.Syntax.{w16}
-use mir.Val.{to_z}
+use Rattle.std.proofs.Common.{ap, ◌∙◌, w16, to_z}
 use Rattle.wav_samples.specs.Frames.{sample_at}
 use Rattle.wav_samples.specs.Sample.{sample_in}
 use Rattle.wav_samples.proofs.Signed as sg

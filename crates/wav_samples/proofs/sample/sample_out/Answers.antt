@@ -1,5 +1,5 @@
 -- `sample::sample_out` meets its contract: the float is the one with these bits. Assumes nothing.
-use mathlib.Core.Path.{refl, ◌∙◌}
+use Rattle.std.proofs.Common.{refl, ◌∙◌}
 use denote.Floats.{passes}
 use Rattle.wav_samples.proofs.Steps.{bits_out}
 use Rattle.wav_samples.proofs.sample.sample_out.Goals as goal

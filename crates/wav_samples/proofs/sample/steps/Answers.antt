@@ -1,8 +1,5 @@
 -- `sample::steps` meets its contract: a law of proofs/Steps.antt for each arm. Assumes nothing.
-use mathlib.Core.Path.{◌∙◌}
-use Prim.Native.Nat.{◌+◌, ◌-◌, ◌^◌, zero-le}
-use native.Mathlib.Omega.{arith}
-use lib.Dec.{lit≤}
+use Rattle.std.proofs.Common.{◌∙◌, ◌+◌, ◌-◌, ◌^◌, zero-le, arith, lit≤}
 use Rattle.rounding.proofs.Quotients.{quotient_shl}
 use Rattle.wav_samples.proofs.Steps.{nan_steps, inf_steps, large_steps, small_steps, middle_steps}
 use Rattle.wav_samples.proofs.sample.steps.Goals as goal

@@ -1,10 +1,5 @@
 -- Top stage k is run on its next frame. Each index and each stretch is inside, by where the stage lies (`here`); what the code leaves is the step. Assumes nothing.
-use mathlib.Core.Path.{◌≡◌, ap, ◌∙◌}
-use native.Mathlib.Omega.{arith}
-use mathlib.Core.List.{List}
-use Prim.Native.Nat.{ℕ, ◌-◌, ◌≤◌}
-use lib.ListN.{length, take, drop, length-drop}
-use lib.Seq.{length-take-le}
+use Rattle.std.proofs.Common.{◌≡◌, ap, ◌∙◌, arith, List, ℕ, ◌-◌, ◌≤◌, length, take, drop, length-drop, length-take-le}
 use Rattle.chain.specs.Block.{block}
 use Rattle.chain.proofs.OneStep.{Located, located, advance_is}
 use Rattle.chain.proofs.plan.Plan.advance.Goals as goal

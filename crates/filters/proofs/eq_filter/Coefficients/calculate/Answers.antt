@@ -1,8 +1,6 @@
 -- One law for the three kinds: each gets the q, 0.01 at least, and the gain's amplitude. Assumes nothing.
-use mathlib.Core.Path.{◌≡◌}
-use mir.Syntax.{w32}
+use Rattle.std.proofs.Common.{◌≡◌, w32, Float}
 use mir.ValLaws.{to_z-of_z}
-use lib.Ieee.{Float}
 use Rattle.float.specs.Clamp.{hundredth_of}
 use Rattle.decibels.specs.Amplitude.{eq_amplitude_of}
 use Rattle.filters.specs.declared.eq_filter.Coefficients.{Coefficients}

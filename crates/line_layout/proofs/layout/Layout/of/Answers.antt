@@ -1,7 +1,5 @@
 -- `Layout::of` meets its contract: where all starts stand, they are the list of them. Assumes nothing.
-use mathlib.Core.Path.{◌∙◌}
-use Prim.Native.Nat.{◌+◌}
-use native.Mathlib.Omega.{arith}
+use Rattle.std.proofs.Common.{◌∙◌, ◌+◌, arith}
 use Rattle.memories.specs.Sizes.{places}
 use Rattle.line_layout.specs.Layout.{start_of}
 use Rattle.stage.proofs.Listed.{listed_all}

@@ -1,7 +1,5 @@
 -- The loop's invariant: the starts up to place i stand, and the last of them is at most i times what one stage can have. Assumes nothing.
-use mathlib.Core.Path.{◌≡◌}
-use Prim.Native.Nat.{ℕ, ◌+◌, ◌*◌, ◌≤◌, ◌<◌}
-use lib.ListN.{length, get_or}
+use Rattle.std.proofs.Common.{◌≡◌, ℕ, ◌+◌, ◌*◌, ◌≤◌, ◌<◌, length, get_or}
 use Rattle.reverb_tuning.specs.Tuning.{line_count}
 use Rattle.memories.specs.Sizes.{places}
 use Rattle.line_layout.specs.Layout.{start_of}

@@ -1,12 +1,10 @@
 -- `Stage::in_range` meets its contract: in each arm the stage is known, and what the callees ensure is put together. A whole number of the stage fits 32 bits, so reading it back changes nothing. Assumes nothing.
-use mir.Syntax.{w32}
-use mir.Val.{SFits}
+use Rattle.std.proofs.Common.{w32, SFits, rules}
 use mir.ValLaws.{to_z-of_z}
 use lib.Ieee.{of_bits, round}
 use Rattle.float.specs.Literal.{literal}
 use Rattle.stage.specs.Range.{in_range_of}
 use Rattle.stage.proofs.Contained.{int_le, float_le}
-use borrow.Author.Rules.{rules}
 use Rattle.stage.proofs.kind.Stage.in_range.Goals as goal
 
 pub returns-in-EqFilter : goal.returns-in-EqFilter
