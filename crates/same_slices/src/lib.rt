@@ -11,8 +11,5 @@ use float::bits::to_bits;
 pub fn floats(a: &[f32], b: &[f32]) -> bool
     ensures { result ≡ same_floats a.now b.now }
 {
-    a.len() == b.len()
-        && a.iter()
-            .zip(b)
-            .all(|(x, y)| to_bits(*x) == to_bits(*y))
+    a.len() == b.len() && a.iter().zip(b).all(|(x, y)| to_bits(*x) == to_bits(*y))
 }

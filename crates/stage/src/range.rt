@@ -37,9 +37,7 @@ impl Stage {
         match self {
             Stage::VolumeControl { volume } => volume <= 24,
             Stage::PanningControl { panning } => is_finite(panning),
-            Stage::Distortion { drive, mix, .. } => {
-                (-59..=24).contains(&drive) & is_finite(mix)
-            }
+            Stage::Distortion { drive, mix, .. } => { (-59..=24).contains(&drive) & is_finite(mix) }
             Stage::Filter {
                 g,
                 resonance,

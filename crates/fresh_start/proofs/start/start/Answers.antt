@@ -37,6 +37,6 @@ returns-clause-leaves c =
     let floats = c.needed-floats.ensures in
     let answer = c.check_chain-answer.ensures in
     elim c.if-is_ok.branch [
-      then-is_ok w ↦ w.store-is ∙ w.clear.ensures ∙ ap (λ n. cleared_to n a.store.now) floats ∙ sym (started a.setup a.store.now (judged a.setup a.store.now floats answer (sym c.is_ok.ensures.value ∙ w.if-is_ok.true)))
-    | else-is_ok w ↦ w.store-is ∙ sym (not_started a.setup a.store.now (judged a.setup a.store.now floats answer (sym c.is_ok.ensures.value ∙ w.if-is_ok.false)))
+      | then-is_ok w ↦ w.store-is ∙ w.clear.ensures ∙ ap (λ n. cleared_to n a.store.now) floats ∙ sym (started a.setup a.store.now (judged a.setup a.store.now floats answer (sym c.is_ok.ensures.value ∙ w.if-is_ok.true)))
+      | else-is_ok w ↦ w.store-is ∙ sym (not_started a.setup a.store.now (judged a.setup a.store.now floats answer (sym c.is_ok.ensures.value ∙ w.if-is_ok.false)))
     ]
