@@ -5,6 +5,5 @@ pub mod Nan
 pub mod Patterns
 pub mod Clamps
 pub mod Finites
-pub mod Complement
 pub mod Outcome
 pub mod OneOutcome

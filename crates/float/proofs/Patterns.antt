@@ -1,10 +1,10 @@
 -- Which bit patterns are a NaN's: those above an infinity's, the sign put aside. Assumes nothing.
 use mathlib.Core.Path.{◌≡◌, refl, sym, ap, ◌∙◌}
 use Prim.Native.Nat.{ℕ, suc, ◌+◌, ◌-◌, ◌*◌, ◌%◌, ◌≤◌, ◌<◌}
-use native.Mathlib.Nat.{add-mod_left, lt_of_le_of_lt, mul_comm, mod-eq_of_lt, suc-mul}
+use native.Mathlib.Nat.{mul_comm, mod-eq_of_lt, suc-mul, two-mul}
 use native.Mathlib.Omega.{arith}
 use mathlib.Core.Bool.{true, not, false≢true}
-use lib.Dec.{T, ltb}
+use lib.Dec.{T}
 use lib.Pow.{pow_pos}
 use borrow.Author.Tests.{le-ltb, lt-ltb}
 use denote.Floats.{passes}
@@ -17,17 +17,14 @@ inf_below_top f = grows (top f) (ones f * hid f) (hid f) (mul_comm (hid f) (suc 
     grows : (a b c : ℕ) → a ≡ b + c → 0 < c → b < a
     grows a b c e l = omega arith
 
--- ---- a pattern up to the infinity's is no NaN's
-no_nan_at : (f : Format) (n r : ℕ) → r ≤ ones f * hid f → n % top f ≡ r → T (not (nan_bits f n))
-no_nan_at f n r h e = passes _ (ap not (nan_bits_above f n ∙ ap (ltb (ones f * hid f)) e ∙ le-ltb (ones f * hid f) r h))
+-- ---- a pattern up to the infinity's keeps all its bits
+pub kept_whole : (f : Format) (r : ℕ) → r ≤ ones f * hid f → r % (2 * top f) ≡ r
+kept_whole f r h = mod-eq_of_lt (join (ones f * hid f) (top f) (2 * top f) h (inf_below_top f) (two-mul (top f)))
+  where
+    join : (a b c : ℕ) → r ≤ a → a < b → c ≡ b + b → r < c
+    join a b c k l e = omega arith
 
-pub no_nan : (f : Format) (r : ℕ) → r ≤ ones f * hid f → T (not (nan_bits f r))
-no_nan f r h = no_nan_at f r r h (mod-eq_of_lt (lt_of_le_of_lt h (inf_below_top f)))
-
-pub no_nan_negative : (f : Format) (r : ℕ) → r ≤ ones f * hid f → T (not (nan_bits f (top f + r)))
-no_nan_negative f r h = no_nan_at f (top f + r) r h (add-mod_left (top f) r ∙ mod-eq_of_lt (lt_of_le_of_lt h (inf_below_top f)))
-
--- ---- every pattern, by the number below its sign
+-- ---- a pattern, by the number below its sign
 pub nan_pattern : (f : Format) (n : ℕ) → ones f * hid f < n % top f → of_bits f n ≡ nan
 unfolding is_nan
 nan_pattern f n h = told (of_bits f n) (sym (nan_bits_is f n) ∙ nan_bits_above f n ∙ lt-ltb (ones f * hid f) (n % top f) h)
@@ -38,4 +35,4 @@ nan_pattern f n h = told (of_bits f n) (sym (nan_bits_is f n) ∙ nan_bits_above
     told (fin s m d) e = absurd (false≢true e)
 
 pub no_nan_pattern : (f : Format) (n : ℕ) → n % top f ≤ ones f * hid f → T (not (nan_bits f n))
-no_nan_pattern f n h = no_nan_at f n (n % top f) h refl
+no_nan_pattern f n h = passes _ (ap not (nan_bits_above f n ∙ le-ltb (ones f * hid f) (n % top f) h))

@@ -9,9 +9,6 @@ use crate::floating::Floating;
 pub fn to_bits<F: Floating>(x: F) -> F::Bits
     ensures { F.number result ≡ to_bits F.format (F.value x) }
 {
-    if x != x {
-        return F::NAN_BITS;
-    }
     x.own_bits()
 }
 
@@ -19,8 +16,5 @@ pub fn to_bits<F: Floating>(x: F) -> F::Bits
 pub fn from_bits<F: Floating>(bits: F::Bits) -> F
     ensures { F.value result ≡ of_bits F.format (F.number bits) }
 {
-    if F::INFINITY < F::widen(bits) % F::SIGN {
-        return F::NAN;
-    }
     F::from_own_bits(bits)
 }

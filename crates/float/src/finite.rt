@@ -8,5 +8,5 @@ use crate::floating::Floating;
 pub fn is_finite<F: Floating>(x: F) -> bool
     ensures { result ≡ finite_of (F.value x) }
 {
-    x == x && F::widen(x.own_bits()) % F::SIGN < F::INFINITY
+    F::widen(x.own_bits()) % F::SIGN < F::INFINITY
 }

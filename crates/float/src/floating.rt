@@ -1,12 +1,12 @@
 // f32 and f64 seen as one: what the code needs that Rust has at each of the two apart.
-ghost use Rattle.std.specs.Prelude.{◌≡◌, ◌*◌, ◌<◌, ℕ, true, Float, refl, to_bits};
-ghost use Rattle.std.specs.Float.{Format, NotNan, NotNanBits, binary32, binary64, nan};
-ghost use Rattle.std.specs.Float.Ieee.{eq, fits, hid, low, of_bits, ones, prec, top};
+ghost use Rattle.std.specs.Prelude.{◌≡◌, ◌*◌, ◌%◌, ℕ, true, Float, refl};
+ghost use Rattle.std.specs.Float.{Format, binary32, binary64, nan};
+ghost use Rattle.std.specs.Float.Ieee.{eq, fits, hid, low, of_bits, ones, prec, to_bits, top};
 ghost use Rattle.std.specs.Ordering.{float_partial_cmp};
 ghost use Rattle.float.specs.Literal.{literal};
 
-// A binary format of IEEE 754, f32 or f64. The methods are steps of this crate's functions and of
-// `rounding`'s.
+// A binary format of IEEE 754, f32 or f64. The methods are total, as all that is public: where the
+// language's own ask that there is no NaN, or that a number fits, these have an answer.
 pub trait Floating: Copy + PartialOrd {
     // Where the bits are kept, u32 or u64.
     type Bits: Copy;
@@ -17,12 +17,10 @@ pub trait Floating: Copy + PartialOrd {
 
     const NAN: Self;
 
-    // The bits of -0, of the infinity and of the NaN, and the lowest bit of the exponent's field.
+    // The bits of -0 and of the infinity, and the lowest bit of the exponent's field.
     const SIGN: u64;
 
     const INFINITY: u64;
-
-    const NAN_BITS: Self::Bits;
 
     const HIDDEN: u64;
 
@@ -49,29 +47,27 @@ pub trait Floating: Copy + PartialOrd {
 
     ghost INFINITY: { ℕ };
 
-    ghost NAN_BITS: { Self.Bits };
-
     ghost HIDDEN: { ℕ };
 
     ghost DIGITS: { ℕ };
 
     ghost PLACES: { ℕ };
 
+    // Rust's `to_bits`, with one pattern for every NaN.
     fn own_bits(self) -> Self::Bits
-        requires { NotNan (value self) }
         ensures bits { number result ≡ to_bits format (value self) }
         ensures fits { fits format (value self) ≡ true };
 
+    // Rust's `from_bits`, with one NaN for every pattern of one.
     fn from_own_bits(bits: Self::Bits) -> Self
-        requires { NotNanBits format (number bits) }
         ensures { value result ≡ of_bits format (number bits) };
 
     fn widen(bits: Self::Bits) -> u64
         ensures { result ≡ number bits };
 
+    // The low bits, as many as there is room for.
     fn narrow(bits: u64) -> Self::Bits
-        requires { bits < 2 * top format }
-        ensures { number result ≡ bits };
+        ensures { number result ≡ bits % (2 * top format) };
 
     ghost zero_is: { value ZERO ≡ literal format 0 1 };
 
@@ -88,8 +84,6 @@ pub trait Floating: Copy + PartialOrd {
     ghost digits_is: { DIGITS ≡ prec format };
 
     ghost places_is: { PLACES ≡ low format };
-
-    ghost nan_bits_is: { number NAN_BITS ≡ to_bits format nan };
 
     ghost equal: { (a b : Self) → Self.eq a b ≡ eq (value a) (value b) };
 
@@ -113,8 +107,6 @@ impl Floating for f32 {
 
     const INFINITY: u64 = 0x7f80_0000;
 
-    const NAN_BITS: u32 = 0x7fc0_0000;
-
     const HIDDEN: u64 = 0x80_0000;
 
     const DIGITS: u64 = 24;
@@ -137,8 +129,6 @@ impl Floating for f32 {
 
     ghost INFINITY = { 0x7f80_0000 };
 
-    ghost NAN_BITS = { to_bits binary32 nan };
-
     ghost HIDDEN = { 0x80_0000 };
 
     ghost DIGITS = { 24 };
@@ -146,10 +136,16 @@ impl Floating for f32 {
     ghost PLACES = { 149 };
 
     fn own_bits(self) -> u32 {
+        if self != self {
+            return 0x7fc0_0000;
+        }
         f32::to_bits(self)
     }
 
     fn from_own_bits(bits: u32) -> f32 {
+        if 0x7f80_0000 < bits % 0x8000_0000 {
+            return f32::NAN;
+        }
         f32::from_bits(bits)
     }
 
@@ -158,7 +154,7 @@ impl Floating for f32 {
     }
 
     fn narrow(bits: u64) -> u32 {
-        bits as u32
+        (bits % 0x1_0000_0000) as u32
     }
 
     ghost zero_is = { refl };
@@ -176,8 +172,6 @@ impl Floating for f32 {
     ghost digits_is = { refl };
 
     ghost places_is = { refl };
-
-    ghost nan_bits_is = { refl };
 
     ghost equal = { λ a b. refl };
 
@@ -201,8 +195,6 @@ impl Floating for f64 {
 
     const INFINITY: u64 = 0x7ff0_0000_0000_0000;
 
-    const NAN_BITS: u64 = 0x7ff8_0000_0000_0000;
-
     const HIDDEN: u64 = 0x10_0000_0000_0000;
 
     const DIGITS: u64 = 53;
@@ -225,8 +217,6 @@ impl Floating for f64 {
 
     ghost INFINITY = { 0x7ff0_0000_0000_0000 };
 
-    ghost NAN_BITS = { to_bits binary64 nan };
-
     ghost HIDDEN = { 0x10_0000_0000_0000 };
 
     ghost DIGITS = { 53 };
@@ -234,10 +224,16 @@ impl Floating for f64 {
     ghost PLACES = { 1074 };
 
     fn own_bits(self) -> u64 {
+        if self != self {
+            return 0x7ff8_0000_0000_0000;
+        }
         f64::to_bits(self)
     }
 
     fn from_own_bits(bits: u64) -> f64 {
+        if 0x7ff0_0000_0000_0000 < bits % 0x8000_0000_0000_0000 {
+            return f64::NAN;
+        }
         f64::from_bits(bits)
     }
 
@@ -264,8 +260,6 @@ impl Floating for f64 {
     ghost digits_is = { refl };
 
     ghost places_is = { refl };
-
-    ghost nan_bits_is = { refl };
 
     ghost equal = { λ a b. refl };
 

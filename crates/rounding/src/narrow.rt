@@ -7,6 +7,7 @@ ghost use Rattle.std.specs.Float.Ieee.{of_bits, of_fields};
 ghost use Rattle.rounding.specs.Narrow.{narrow_of};
 
 use crate::quotient::nearest_quotient;
+use float::bits::from_bits;
 
 // The f32 nearest to the finite f64 with this exponent field and these digits, as bits without a sign.
 fn narrowed(field: u64, digits: u64) -> u64
@@ -33,7 +34,7 @@ pub fn as_f32(x: f64) -> f32
     ensures { result ≡ narrow_of binary32 x }
 {
     if x != x {
-        return 0.0 / 0.0;
+        return f32::NAN;
     }
     let b = f64::to_bits(x);
     let rest = b % 0x8000_0000_0000_0000;
@@ -43,7 +44,7 @@ pub fn as_f32(x: f64) -> f32
         0x7f80_0000
     };
     if b < 0x8000_0000_0000_0000 {
-        return f32::from_bits(size as u32);
+        return from_bits(size as u32);
     }
-    f32::from_bits((0x8000_0000 + size) as u32)
+    from_bits((0x8000_0000 + size) as u32)
 }

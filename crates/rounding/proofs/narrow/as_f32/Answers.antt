@@ -7,8 +7,7 @@ use borrow.Author.Tests.{le-leb, lt-leb}
 use denote.Floats.{passes}
 use lib.Ieee.{binary32, binary64, of_bits, to_bits}
 use Rattle.rounding.specs.Narrow.{narrow_of}
-use Rattle.float.proofs.Patterns.{no_nan, no_nan_negative}
-use Rattle.float.proofs.Nan.{nan_is, is_nan_lem, not_nan}
+use Rattle.float.proofs.Nan.{is_nan_lem, not_nan}
 use Rattle.rounding.proofs.Narrowing.{Bits, of_finite, of_infinite}
 use Rattle.rounding.proofs.narrow.as_f32.Goals as goal
 use Rattle.rounding.proofs.narrow.as_f32.Goals.{Joined-rest-lt9218868437227405312, then-rest-lt9218868437227405312, else-rest-lt9218868437227405312}
@@ -29,24 +28,18 @@ joined c =
     ]
 
 pub returns-then-x : goal.returns-then-x
-unfolding narrow_of
-returns-then-x c = nan_is binary32 ∙ ap (narrow_of binary32) (sym (is_nan_lem c.args.x c.if-x.true))
+unfolding narrow_of of_bits
+returns-then-x c = ap (narrow_of binary32) (sym (is_nan_lem c.args.x c.if-x.true))
 
 pub float_to_bits-b : goal.float_to_bits-b
 float_to_bits-b c = not_nan c.args.x c.if-x.false
 
-pub float_from_bits-result : goal.float_from_bits-result
-float_from_bits-result c = no_nan binary32 c.if-rest-lt9218868437227405312.size (joined (goal.at.float_from_bits-result c).Joined-rest-lt9218868437227405312).1
-
 pub returns-then-b-lt9223372036854775808 : goal.returns-then-b-lt9223372036854775808
 returns-then-b-lt9223372036854775808 c =
     let b = to_bits binary64 c.args.x in
-    ap (of_bits binary32) (sym (zero-add c.if-rest-lt9218868437227405312.size)) ∙ (joined (goal.at.returns-then-b-lt9223372036854775808 c).Joined-rest-lt9218868437227405312).0 false (lt-leb (2 ^ 63) b c.if-b-lt9223372036854775808.true)
-
-pub float_from_bits-result-2 : goal.float_from_bits-result-2
-float_from_bits-result-2 c = no_nan_negative binary32 c.if-rest-lt9218868437227405312.size (joined (goal.at.float_from_bits-result-2 c).Joined-rest-lt9218868437227405312).1
+    c.from_bits.ensures ∙ ap (of_bits binary32) (sym (zero-add c.if-rest-lt9218868437227405312.size)) ∙ (joined (goal.at.returns-then-b-lt9223372036854775808 c).Joined-rest-lt9218868437227405312).0 false (lt-leb (2 ^ 63) b c.if-b-lt9223372036854775808.true)
 
 pub returns : goal.returns
 returns c =
     let b = to_bits binary64 c.args.x in
-    (joined (goal.at.returns c).Joined-rest-lt9218868437227405312).0 true (le-leb (2 ^ 63) b c.if-b-lt9223372036854775808.false)
+    c.from_bits-2.ensures ∙ (joined (goal.at.returns c).Joined-rest-lt9218868437227405312).0 true (le-leb (2 ^ 63) b c.if-b-lt9223372036854775808.false)

@@ -3,7 +3,7 @@ use denote.Floats.{passes}
 use lib.Ieee.{of_bits, lt, eq}
 use lib.Ieee.Bits.{of_bits-to_bits}
 use Rattle.float.proofs.Order.{less_by, zero_literal}
-use Rattle.float.proofs.Patterns.{no_nan}
+use Rattle.float.proofs.Patterns.{kept_whole}
 use Rattle.rounding.proofs.Roots.{above_bits, root_of_inf, root_of_zero, root_of_negative}
 use Rattle.rounding.proofs.sqrt.sqrt.Given.{Over}
 use Rattle.rounding.proofs.sqrt.sqrt.Goals as goal
@@ -26,17 +26,14 @@ root_bits-requires-clause-positive g c =
     let x = g.F.Floating.value c.args.x in
     rw (c.widen-b.ensures, c.own_bits.ensures.bits) (above_bits g.F.Floating.format x (passes _ c.own_bits.ensures.fits) (sym (above g (goal.at.root_bits-requires-clause-positive g c).After-lt) ∙ c.if-lt.true))
 
-pub from_own_bits-requires : goal.from_own_bits-requires
-from_own_bits-requires g c =
-    let law = g.met.F.Floating in
-    rw c.narrow.ensures (no_nan g.F.Floating.format c.root_bits.result (rw law.infinity_is at c.root_bits.ensures.1))
-
 pub returns-then-b-INFINITY : goal.returns-then-b-INFINITY
 returns-then-b-INFINITY g c =
     let f = g.F.Floating.format in
+    let law = g.met.F.Floating in
     let bits = c.own_bits.ensures in
+    let kept = kept_whole f c.root_bits.result (rw law.infinity_is at c.root_bits.ensures.1) in
     let whole = of_bits-to_bits f (g.F.Floating.value c.args.x) (passes _ bits.fits) in
-    rw (c.from_own_bits.ensures, c.narrow.ensures, c.root_bits.ensures.0, c.widen-b.ensures, bits.bits, whole)
+    rw (c.from_own_bits.ensures, c.narrow.ensures, kept, c.root_bits.ensures.0, c.widen-b.ensures, bits.bits, whole)
 
 pub returns-then-lt : goal.returns-then-lt
 returns-then-lt g c =
