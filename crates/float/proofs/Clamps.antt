@@ -1,8 +1,7 @@
 -- `abs`, as the library has it. Assumes nothing.
-use mathlib.Core.Path.{◌≡◌, refl}
-use lib.Ieee.{Float, nan, inf, fin}
-use Rattle.std.specs.Float.{float_with_sign}
-use mathlib.Core.Bool.{false}
+use Rattle.std.proofs.Common.{◌≡◌, refl, Float, false}
+use lib.Ieee.{inf, fin}
+use Rattle.std.specs.Float.{float_with_sign, nan}
 use Rattle.float.specs.Clamp.{abs_of}
 
 pub abs_is : (x : Float) → float_with_sign false x ≡ abs_of x

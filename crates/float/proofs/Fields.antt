@@ -1,9 +1,7 @@
 -- The numbers of a format that its bits are made of. Assumes nothing.
-use mathlib.Core.Path.{◌≡◌, sym, ap, ◌∙◌}
-use Prim.Native.Nat.{ℕ, suc, ◌+◌, ◌-◌, ◌*◌, ◌^◌, ◌≤◌, ◌<◌}
-use native.Mathlib.Nat.{le_trans, le_of_eq, mul-le-mul_right, suc-mul, pow-suc}
-use native.Mathlib.Omega.{arith}
-use lib.Ieee.{Format, prec, hid}
+use Rattle.std.proofs.Common.{◌≡◌, sym, ap, ◌∙◌, ℕ, suc, ◌+◌, ◌-◌, ◌*◌, ◌^◌, ◌≤◌, ◌<◌, le_trans, le_of_eq, mul-le-mul_right, suc-mul, pow-suc, arith}
+use Rattle.std.specs.Float.{Format}
+use lib.Ieee.{prec, hid}
 use lib.Ieee.Fits.{two, two-le_pos}
 
 pub suc_pred : (p : ℕ) → 0 < p → suc (p - 1) ≡ p

@@ -1,15 +1,9 @@
 -- A value is finite exactly where its bits, without the sign, are below an infinity's. Assumes nothing.
-use mathlib.Core.Path.{◌≡◌, refl, sym, ap, ◌∙◌}
-use mathlib.Core.Bool.{Bool, true, false, ◌&&◌, cond}
-use Prim.Native.Nat.{ℕ, zero, suc, ◌+◌, ◌-◌, ◌*◌, ◌/◌, ◌%◌, ◌^◌, ◌≤◌, ◌<◌}
-use native.Mathlib.Nat.{add-mod_left, mod-eq_of_lt, zero-add, le_refl, le_of_eq, lt_trans, lt_of_lt_of_le, lt_of_le_of_lt, zero-mul, mul_right_comm, mul-pos, mul-lt-mul_of_pos_right, div-lt_iff_lt-mul}
-use native.Mathlib.Omega.{arith}
-use lib.IntN.{ℤ}
-use lib.Dec.{T, leb, ltb, eqb, ltb→lt}
-use lib.Pow.{pow-add, pow_pos}
-use borrow.Author.Tests.{lt-ltb, le-ltb}
+use Rattle.std.proofs.Common.{◌≡◌, refl, sym, ap, ◌∙◌, Bool, true, false, ◌&&◌, cond, ℕ, zero, suc, ◌+◌, ◌-◌, ◌*◌, ◌/◌, ◌%◌, ◌^◌, ◌≤◌, ◌<◌, mod-eq_of_lt, zero-add, le_refl, le_of_eq, lt_trans, lt_of_lt_of_le, lt_of_le_of_lt, zero-mul, mul_right_comm, mul-pos, mul-lt-mul_of_pos_right, div-lt_iff_lt-mul, arith, ℤ, T, leb, ltb, eqb, ltb→lt, pow-add, pow_pos, lt-ltb, le-ltb, Float}
+use Rattle.std.specs.Float.{nan, Format, binary32, binary64}
+use native.Mathlib.Nat.{add-mod_left}
 use denote.Floats.{passes}
-use lib.Ieee.{Float, nan, inf, fin, Format, binary32, binary64, prec, emax, low, up, down, size, hid, ones, top, fits, to_bits}
+use lib.Ieee.{inf, fin, prec, emax, low, up, down, size, hid, ones, top, fits, to_bits}
 use lib.Ieee.Digits.{size-le}
 use lib.Ieee.Fits.{down_pos, and_r, kept-lt}
 use Rattle.float.specs.Finite.{finite_of}

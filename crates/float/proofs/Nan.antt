@@ -1,8 +1,7 @@
 -- NaN as the code tests for it. Assumes nothing.
-use mathlib.Core.Path.{◌≡◌, sym, ◌∙◌}
-use mathlib.Core.Bool.{true, false, not, true≢false}
-use lib.Dec.{T}
-use lib.Ieee.{Float, nan, inf, fin, is_nan, ne}
+use Rattle.std.proofs.Common.{◌≡◌, sym, ◌∙◌, true, false, not, true≢false, T, Float}
+use Rattle.std.specs.Float.{nan}
+use lib.Ieee.{inf, fin, is_nan, ne}
 use lib.Ieee.Compare.{nan_differs, differs_from_itself}
 use denote.Floats.{passes}
 

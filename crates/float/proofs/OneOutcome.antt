@@ -1,5 +1,5 @@
 -- Each public function's promise admits one outcome. Assumes nothing.
-use mathlib.Core.Path.{sym, ◌∙◌}
+use Rattle.std.proofs.Common.{sym, ◌∙◌}
 use denote.RattleType.{RattleType}
 use Rattle.float.specs.declared.floating.Floating.{Ghosts}
 use Rattle.float.proofs.Outcome.{Single, Known}

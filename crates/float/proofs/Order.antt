@@ -1,8 +1,7 @@
 -- What code for both widths learns of a comparison, and 0 as it names it. Assumes nothing.
-use mathlib.Core.Path.{◌≡◌, refl, ap, ◌∙◌}
-use mathlib.Core.Bool.{Bool, true, false, cond}
-use lib.Ieee.{Float, Format, binary32, binary64, round, of_bits, lt, eq}
-use Rattle.std.proofs.Common.{Option, Ordering, Some, None, Less, Equal, Greater}
+use Rattle.std.proofs.Common.{◌≡◌, refl, ap, ◌∙◌, Bool, true, false, cond, Float, Option, Ordering, Some, None, Less, Equal, Greater}
+use Rattle.std.specs.Float.{Format, binary32, binary64}
+use lib.Ieee.{round, of_bits, lt, eq}
 use Rattle.std.specs.Ordering.{float_partial_cmp, is_lt, is_some_and}
 use Rattle.float.specs.Literal.{literal}
 

@@ -1,5 +1,5 @@
 -- What it means that a promise admits one outcome. Each crate's OneOutcome.antt shows it of its public functions. Assumes nothing.
-use mathlib.Core.Path.{◌≡◌}
+use Rattle.std.proofs.Common.{◌≡◌}
 
 -- `Post` is the promise as Rattle reads it from the source: of the lifetimes, the arguments a, the result r and what the arguments hold at exit s.
 -- Where all arguments are handed over by value, a caller sees the result and nothing else. All NaNs are one value, so "one outcome" is up to a NaN's bits.

@@ -1,14 +1,9 @@
 -- Which bit patterns are a NaN's: those above an infinity's, the sign put aside. Assumes nothing.
-use mathlib.Core.Path.{◌≡◌, refl, sym, ap, ◌∙◌}
-use Prim.Native.Nat.{ℕ, suc, ◌+◌, ◌-◌, ◌*◌, ◌%◌, ◌≤◌, ◌<◌}
-use native.Mathlib.Nat.{mul_comm, mod-eq_of_lt, suc-mul, two-mul}
-use native.Mathlib.Omega.{arith}
-use mathlib.Core.Bool.{true, not, false≢true}
-use lib.Dec.{T}
-use lib.Pow.{pow_pos}
-use borrow.Author.Tests.{le-ltb, lt-ltb}
+use Rattle.std.proofs.Common.{◌≡◌, refl, sym, ap, ◌∙◌, ℕ, suc, ◌+◌, ◌-◌, ◌*◌, ◌%◌, ◌≤◌, ◌<◌, mul_comm, mod-eq_of_lt, suc-mul, two-mul, arith, true, not, T, pow_pos, le-ltb, lt-ltb, Float}
+use Rattle.std.specs.Float.{nan, Format}
+use mathlib.Core.Bool.{false≢true}
 use denote.Floats.{passes}
-use lib.Ieee.{Float, nan, inf, fin, Format, prec, hid, ones, top, of_bits, nan_bits, is_nan}
+use lib.Ieee.{inf, fin, prec, hid, ones, top, of_bits, nan_bits, is_nan}
 use lib.Ieee.Bits.{nan_bits_above, nan_bits_is}
 
 pub inf_below_top : (f : Format) → ones f * hid f < top f

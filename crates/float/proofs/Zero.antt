@@ -1,11 +1,8 @@
 -- 0 as the code writes it, and which finite values equal it. Assumes nothing.
-use mathlib.Core.Path.{◌≡◌, refl, sym, ap, ◌∙◌}
-use mathlib.Core.Bool.{Bool, true, false, ◌||◌, beq}
-use Prim.Native.Nat.{ℕ, zero, suc, ◌*◌, ◌<◌}
-use native.Mathlib.Nat.{zero-lt-suc, zero-mul, mul-one, mul-pos, ne_of_lt}
-use lib.IntN.{ℤ, pos}
-use lib.Dec.{eqb, eqb→eq}
-use lib.Ieee.{fin, Format, binary32, binary64, up, down, of_bits, eq, level}
+use Rattle.std.proofs.Common.{◌≡◌, refl, sym, ap, ◌∙◌, Bool, true, false, ◌||◌, ℕ, zero, suc, ◌*◌, ◌<◌, zero-lt-suc, zero-mul, mul-one, mul-pos, ne_of_lt, ℤ, pos, eqb, eqb→eq}
+use Rattle.std.specs.Float.{Format, binary32, binary64}
+use mathlib.Core.Bool.{beq}
+use lib.Ieee.{fin, up, down, of_bits, eq, level}
 use lib.Ieee.Fits.{up_pos, and_l}
 use denote.Floats.{passes}
 

@@ -1,9 +1,6 @@
 -- The root of q * 2 ^ j, of which p digits are kept, from that of q shifted to the top of a word. Assumes nothing.
-use mathlib.Core.Path.{◌≡◌, refl, sym, ap, ◌∙◌}
-use Prim.Native.Nat.{ℕ, zero, suc, ◌+◌, ◌-◌, ◌*◌, ◌/◌, ◌%◌, ◌^◌, ◌≤◌, ◌<◌}
-use native.Mathlib.Nat.{le_trans, le_of_eq, lt_of_lt_of_le, lt_of_le_of_lt, mul_assoc, mul-mul-mul_comm, mul-le-mul_right, pow-suc, one-le-pow, zero-lt-suc, le-div_iff_mul-le}
-use native.Mathlib.Omega.{arith}
-use lib.Pow.{pow-add, pow_pos, pow_mono, shl_lt, shl_exact}
+use Rattle.std.proofs.Common.{◌≡◌, refl, sym, ap, ◌∙◌, ℕ, zero, suc, ◌+◌, ◌-◌, ◌*◌, ◌/◌, ◌%◌, ◌^◌, ◌≤◌, ◌<◌, le_trans, le_of_eq, lt_of_lt_of_le, lt_of_le_of_lt, mul_assoc, mul-le-mul_right, pow-suc, zero-lt-suc, le-div_iff_mul-le, arith, pow-add, pow_pos, pow_mono, shl_lt, shl_exact}
+use native.Mathlib.Nat.{mul-mul-mul_comm, one-le-pow}
 use lib.Count.{count_leading_zeros, leading_top}
 use lib.Ieee.{size}
 use lib.Ieee.Nearest.{div_same}

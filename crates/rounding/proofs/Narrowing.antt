@@ -1,15 +1,9 @@
 -- A value at a format with fewer digits. Assumes nothing.
-use mathlib.Core.Path.{◌≡◌, refl, sym, ap, ◌∙◌, subst}
-use mathlib.Core.Logic.{◌⊎◌, inl, inr}
-use Prim.Native.Nat.{ℕ, zero, suc, ◌+◌, ◌-◌, ◌*◌, ◌/◌, ◌%◌, ◌^◌, ◌≤◌, ◌<◌, min}
-use native.Mathlib.Nat.{le_trans, le_of_eq, le_of_lt, zero-min, le-add_left, add-zero, lt_of_lt_of_le, lt_of_le_of_lt, mul-one, mul_comm, mul_assoc, mul_right_comm, mul-pos}
-use native.Mathlib.Omega.{arith}
-use mathlib.Core.Bool.{Bool, true, false, not, cond}
-use lib.Dec.{T, leb, lit≤}
-use borrow.Author.Tests.{ltb-false, leb-true, leb-false}
+use Rattle.std.proofs.Common.{◌≡◌, refl, sym, ap, ◌∙◌, subst, ◌⊎◌, inl, inr, ℕ, zero, suc, ◌+◌, ◌-◌, ◌*◌, ◌/◌, ◌%◌, ◌^◌, ◌≤◌, ◌<◌, min, le_trans, le_of_eq, le_of_lt, le-add_left, add-zero, lt_of_lt_of_le, lt_of_le_of_lt, mul-one, mul_comm, mul_assoc, mul_right_comm, mul-pos, arith, Bool, true, false, not, cond, T, leb, lit≤, ltb-false, leb-true, leb-false, pow-add, pow_pos, pow_mono, shl_lt, Float}
+use Rattle.std.specs.Float.{Format, binary32, binary64}
+use native.Mathlib.Nat.{zero-min}
 use lib.Ieee.Bits.{of_bits-to_bits, to_bits-lt, nan_bits_above, nan_bits_is, is_false}
-use lib.Pow.{pow-add, pow_pos, pow_mono, shl_lt}
-use lib.Ieee.{Float, inf, to_bits, fits, is_nan, Format, binary32, binary64, prec, low, units, round, hid, ones, top, of_bits, of_fields}
+use lib.Ieee.{inf, to_bits, fits, is_nan, prec, low, units, round, hid, ones, top, of_bits, of_fields}
 use lib.Ieee.Exact.{HasValue}
 use lib.Ieee.Nearest.{closest}
 use lib.Ieee.Scale.{round_same}

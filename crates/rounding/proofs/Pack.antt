@@ -1,13 +1,9 @@
 -- A value's bits, from its size in units of the format's smallest value. Assumes nothing.
-use mathlib.Core.Path.{◌≡◌, refl, sym, ap, ◌∙◌, subst}
-use mathlib.Core.Logic.{◌⊎◌, inl, inr}
-use Prim.Native.Nat.{ℕ, suc, ◌+◌, ◌-◌, ◌*◌, ◌/◌, ◌^◌, ◌≤◌, ◌<◌}
-use native.Mathlib.Nat.{le_trans, le_of_eq, le_refl, lt_of_lt_of_le, lt_of_le_of_lt, lt_of_not-le, not-le_of_lt, lt_irrefl, le_antisymm, eq-or-lt_of_le, min-eq_left, min-eq_right, mul-one, mul_comm, mul_assoc, mul-div_cancel, mul-le-mul_right, lt_of_mul-lt-mul_right, le_of_mul-le-mul_right, suc-mul, add_assoc, pow-suc}
-use native.Mathlib.Omega.{arith}
-use mathlib.Core.Bool.{Bool, true, false, not, cond}
-use lib.Dec.{T, ltb, ltb→lt, nltb→le, lit≤}
-use lib.Pow.{pow-add, pow_pos, pow_mono, pow-lt, shl_lt}
-use lib.Ieee.{Float, nan, inf, fin, Format, binary32, binary64, prec, emax, low, down, size, odd, units, fits, hid, ones, top, of_bits, to_bits}
+use Rattle.std.proofs.Common.{◌≡◌, refl, sym, ap, ◌∙◌, subst, ◌⊎◌, inl, inr, ℕ, suc, ◌+◌, ◌-◌, ◌*◌, ◌/◌, ◌^◌, ◌≤◌, ◌<◌, le_trans, le_of_eq, le_refl, lt_of_lt_of_le, lt_of_le_of_lt, lt_of_not-le, not-le_of_lt, lt_irrefl, le_antisymm, eq-or-lt_of_le, mul-one, mul_comm, mul_assoc, mul-div_cancel, mul-le-mul_right, lt_of_mul-lt-mul_right, le_of_mul-le-mul_right, suc-mul, add_assoc, pow-suc, arith, Bool, true, false, not, cond, T, ltb, ltb→lt, nltb→le, lit≤, pow-add, pow_pos, pow_mono, shl_lt, Float}
+use Rattle.std.specs.Float.{nan, Format, binary32, binary64}
+use native.Mathlib.Nat.{min-eq_left, min-eq_right}
+use lib.Pow.{pow-lt}
+use lib.Ieee.{inf, fin, prec, emax, low, down, size, odd, units, fits, hid, ones, top, of_bits, to_bits}
 use lib.Ieee.Digits.{size-lt, size-le}
 use lib.Ieee.Fits.{down_pos, odd-fits, inf-fits}
 use lib.Ieee.Exact.{HasValue, odd_sign}

@@ -1,14 +1,7 @@
 -- The laws of a quotient that is rounded to the nearest whole number, a tie to the even one. Assumes nothing.
-use mathlib.Core.Path.{◌≡◌, sym, ap, ◌∙◌}
-use mathlib.Core.Bool.{Bool, cond}
-use Prim.Native.Nat.{ℕ, ◌+◌, ◌*◌, ◌/◌, ◌%◌, ◌^◌, ◌≤◌, ◌<◌, compare}
-use native.Mathlib.Nat.{le_trans, le_of_eq, lt_of_lt_of_le, ne_of_lt, one-mul, mul-le-mul_left, div-mul-le_self, le-div_iff_mul-le, div-lt_iff_lt-mul}
-use native.Mathlib.Numerals.{add-one}
-use native.Mathlib.Omega.{arith}
+use Rattle.std.proofs.Common.{◌≡◌, sym, ap, ◌∙◌, Bool, cond, ℕ, ◌+◌, ◌*◌, ◌/◌, ◌%◌, ◌^◌, ◌≤◌, ◌<◌, le_trans, le_of_eq, lt_of_lt_of_le, ne_of_lt, one-mul, mul-le-mul_left, div-mul-le_self, le-div_iff_mul-le, div-lt_iff_lt-mul, add-one, arith, lit<, pow-add, pow_pos, shl_exact, eq-eqb, ne_eqb}
+use Prim.Native.Nat.{compare}
 use lib.Arith.{le-zero}
-use lib.Dec.{lit<}
-use lib.Pow.{pow-add, pow_pos, shl_exact}
-use borrow.Author.Tests.{eq-eqb, ne_eqb}
 use lib.Ieee.{nearest}
 use lib.Ieee.Fits.{nearest-le}
 use lib.Ieee.Nearest.{closest, nearest-ge, closest_mono}

@@ -1,13 +1,8 @@
 -- The root that the digits give is the format's: one law for both formats. Assumes nothing.
-use mathlib.Core.Path.{◌≡◌, sym, ap, ◌∙◌, subst}
-use mathlib.Core.Logic.{◌⊎◌, inl, inr}
-use Prim.Native.Nat.{ℕ, zero, suc, ◌+◌, ◌-◌, ◌*◌, ◌/◌, ◌%◌, ◌^◌, ◌≤◌, ◌<◌}
-use native.Mathlib.Nat.{le_trans, lt_trans, lt_of_lt_of_le, lt_irrefl, pos_of_ne-zero, le-add_right, zero-add, add-zero, zero-mul, mul_comm, mul_assoc, mul-pos, mul-div_cancel, div-add-mod', div-lt_iff_lt-mul, mod-eq_of_lt}
-use native.Mathlib.Omega.{arith}
-use mathlib.Core.Bool.{Bool, true, false, true≢false}
-use lib.Pow.{pow-add, pow_pos}
+use Rattle.std.proofs.Common.{◌≡◌, sym, ap, ◌∙◌, subst, ◌⊎◌, inl, inr, ℕ, zero, suc, ◌+◌, ◌-◌, ◌*◌, ◌/◌, ◌%◌, ◌^◌, ◌≤◌, ◌<◌, le_trans, lt_trans, lt_of_lt_of_le, lt_irrefl, pos_of_ne-zero, le-add_right, zero-add, add-zero, zero-mul, mul_comm, mul_assoc, mul-pos, mul-div_cancel, div-add-mod', div-lt_iff_lt-mul, mod-eq_of_lt, arith, Bool, true, false, true≢false, pow-add, pow_pos, Float}
+use Rattle.std.specs.Float.{nan, Format}
 use borrow.Author.Tests.{lt-leb}
-use lib.Ieee.{Float, nan, inf, fin, Format, prec, low, up, down, size, units, hid, ones, top, of_bits, of_fields}
+use lib.Ieee.{inf, fin, prec, low, up, down, size, units, hid, ones, top, of_bits, of_fields}
 use lib.Ieee.Fits.{down_pos}
 use lib.Ieee.Exact.{HasValue}
 use Rattle.float.proofs.Fields.{suc_pred}

@@ -1,12 +1,8 @@
 -- The values that are no finite positive number: what a comparison with 0 says of them, and their roots. Assumes nothing.
-use mathlib.Core.Path.{◌≡◌, refl, sym, ap, ◌∙◌}
-use Prim.Native.Nat.{zero, suc, ◌*◌, ◌≤◌, ◌<◌}
-use native.Mathlib.Nat.{le_trans, le_of_eq, lt_of_lt_of_le, lt_irrefl, suc-ne-zero, pos_of_ne-zero, zero-mul}
-use mathlib.Core.Bool.{Bool, true, false, not, true≢false, false≢true}
-use lib.IntN.{pos}
-use lib.Dec.{T}
-use borrow.Author.Tests.{ltb-false}
-use lib.Ieee.{Float, nan, inf, fin, Format, up, down, hid, ones, of_bits, to_bits, fits, is_nan, lt, eq}
+use Rattle.std.proofs.Common.{◌≡◌, refl, sym, ap, ◌∙◌, zero, suc, ◌*◌, ◌≤◌, ◌<◌, le_trans, le_of_eq, lt_of_lt_of_le, lt_irrefl, suc-ne-zero, pos_of_ne-zero, zero-mul, Bool, true, false, not, true≢false, pos, T, ltb-false, Float}
+use Rattle.std.specs.Float.{nan, Format}
+use mathlib.Core.Bool.{false≢true}
+use lib.Ieee.{inf, fin, up, down, hid, ones, of_bits, to_bits, fits, is_nan, lt, eq}
 use lib.Ieee.Bits.{of_bits-to_bits}
 use Rattle.float.proofs.Zero.{zero_is, some_size, equals_zero, zero_size}
 use Rattle.float.proofs.Finites.{finite_bits}

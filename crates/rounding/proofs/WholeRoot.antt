@@ -1,12 +1,7 @@
 -- `whole_root` is the whole part of the root, and `nearest_root` the nearest whole number. Assumes nothing.
-use mathlib.Core.Path.{◌≡◌, refl, sym, ap, ◌∙◌}
-use Prim.Native.Nat.{ℕ, zero, suc, ◌+◌, ◌*◌, ◌/◌, ◌^◌, ◌≤◌, ◌<◌, zero-le}
-use native.Mathlib.Nat.{le_trans, le-add_right, le_of_eq, le_refl, lt_of_lt_of_le, lt_irrefl, lt_of_not-le, le_antisymm, le_of_suc-le-suc, mul-le-mul, mul_comm, mul-mul-mul_comm, suc-mul, mul-suc, pow-suc, div-lt_iff_lt-mul, zero-lt-suc}
-use native.Mathlib.Numerals.{add-one}
-use native.Mathlib.Omega.{arith}
-use mathlib.Core.Bool.{Bool, true, false, not, cond}
-use lib.Dec.{T, leb, ltb, leb→le, nleb→lt, ltb→lt, nltb→le}
-use borrow.Author.Tests.{lt-ltb, le-ltb}
+use Rattle.std.proofs.Common.{◌≡◌, refl, sym, ap, ◌∙◌, ℕ, zero, suc, ◌+◌, ◌*◌, ◌/◌, ◌^◌, ◌≤◌, ◌<◌, zero-le, le_trans, le-add_right, le_of_eq, le_refl, lt_of_lt_of_le, lt_irrefl, lt_of_not-le, le_antisymm, le_of_suc-le-suc, mul-le-mul, mul_comm, suc-mul, mul-suc, pow-suc, div-lt_iff_lt-mul, zero-lt-suc, add-one, arith, Bool, true, false, not, cond, T, leb, ltb, leb→le, ltb→lt, nltb→le, lt-ltb, le-ltb}
+use native.Mathlib.Nat.{mul-mul-mul_comm}
+use lib.Dec.{nleb→lt}
 use lib.Ieee.{size}
 use lib.Ieee.Digits.{size-lt}
 use Rattle.rounding.specs.Root.{whole_root, nearest_root}

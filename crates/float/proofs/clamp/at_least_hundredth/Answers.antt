@@ -1,6 +1,6 @@
-use mathlib.Core.Path.{sym, ap}
-use mathlib.Core.Bool.{Bool, cond}
-use lib.Ieee.{binary64, of_bits, round}
+use Rattle.std.proofs.Common.{sym, ap, Bool, cond}
+use Rattle.std.specs.Float.{binary64}
+use lib.Ieee.{of_bits, round}
 use Rattle.float.specs.Literal.{literal}
 use Rattle.float.specs.Clamp.{hundredth_of}
 use Rattle.float.proofs.clamp.at_least_hundredth.Goals as goal

@@ -1,4 +1,4 @@
-use mathlib.Core.Path.{◌∙◌}
+use Rattle.std.proofs.Common.{◌∙◌}
 use Rattle.float.proofs.Finites.{finite_test}
 use Rattle.float.proofs.finite.is_finite.Goals as goal
 

@@ -1,11 +1,8 @@
-use mathlib.Core.Path.{sym, ap, ◌∙◌, subst}
-use Prim.Native.Nat.{◌^◌, ◌≤◌}
-use native.Mathlib.Nat.{zero-add}
-use native.Mathlib.Omega.{arith}
-use mathlib.Core.Bool.{true, false}
-use borrow.Author.Tests.{le-leb, lt-leb}
+use Rattle.std.proofs.Common.{sym, ap, ◌∙◌, subst, ◌^◌, ◌≤◌, zero-add, arith, true, false, le-leb}
+use Rattle.std.specs.Float.{binary32, binary64}
+use borrow.Author.Tests.{lt-leb}
 use denote.Floats.{passes}
-use lib.Ieee.{binary32, binary64, of_bits, to_bits}
+use lib.Ieee.{of_bits, to_bits}
 use Rattle.rounding.specs.Narrow.{narrow_of}
 use Rattle.float.proofs.Nan.{is_nan_lem, not_nan}
 use Rattle.rounding.proofs.Narrowing.{Bits, of_finite, of_infinite}

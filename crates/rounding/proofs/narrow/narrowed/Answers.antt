@@ -1,6 +1,4 @@
-use mathlib.Core.Path.{sym, ◌∙◌, subst}
-use Prim.Native.Nat.{◌+◌, ◌-◌, ◌^◌, zero-le}
-use native.Mathlib.Omega.{arith}
+use Rattle.std.proofs.Common.{sym, ◌∙◌, subst, ◌+◌, ◌-◌, ◌^◌, zero-le, arith}
 use Rattle.rounding.proofs.Narrowing.{Narrowed, fields_tiny, fields_subnormal, fields_normal}
 use Rattle.rounding.proofs.Quotients.{quotient_shl, quotient_pow}
 use Rattle.rounding.proofs.narrow.narrowed.Goals as goal

@@ -1,6 +1,5 @@
 -- `quotient::nearest_quotient` meets its contract, by the laws of proofs/Quotients.antt. Assumes nothing.
-use native.Mathlib.Nat.{mod-lt}
-use native.Mathlib.Omega.{arith}
+use Rattle.std.proofs.Common.{mod-lt, arith}
 use Rattle.rounding.proofs.Quotients.{no_quotient, rounds_down, rounds_up, rounds_even}
 use Rattle.rounding.proofs.quotient.nearest_quotient.Goals as goal
 

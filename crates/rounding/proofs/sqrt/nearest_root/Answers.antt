@@ -1,5 +1,4 @@
-use Prim.Native.Nat.{◌*◌, ◌/◌, ◌^◌}
-use native.Mathlib.Omega.{arith}
+use Rattle.std.proofs.Common.{◌*◌, ◌/◌, ◌^◌, arith}
 use Rattle.rounding.proofs.WholeRoot.{nearest_up, nearest_down}
 use Rattle.rounding.proofs.sqrt.nearest_root.Goals as goal
 

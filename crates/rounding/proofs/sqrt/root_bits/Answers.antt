@@ -1,6 +1,4 @@
-use mathlib.Core.Path.{ap, ◌∙◌}
-use mathlib.Core.Logic.{inl, inr}
-use native.Mathlib.Omega.{arith}
+use Rattle.std.proofs.Common.{ap, ◌∙◌, inl, inr, arith}
 use lib.Ieee.{of_bits}
 use Rattle.rounding.proofs.RootLaw.{Found, found}
 use Rattle.rounding.proofs.sqrt.root_bits.Given.{Over}

@@ -1,6 +1,4 @@
-use mathlib.Core.Path.{◌≡◌}
-use Prim.Native.Nat.{suc, ◌+◌, ◌-◌, ◌*◌, ◌/◌, ◌≤◌}
-use native.Mathlib.Omega.{arith}
+use Rattle.std.proofs.Common.{◌≡◌, suc, ◌+◌, ◌-◌, ◌*◌, ◌/◌, ◌≤◌, arith}
 use lib.Count.{count_leading_zeros}
 use Rattle.rounding.proofs.Aligned.{lead, aligned_root}
 use Rattle.rounding.proofs.sqrt.scaled_root.Goals as goal

@@ -1,4 +1,4 @@
-use mathlib.Core.Path.{◌≡◌, ◌∙◌, sym}
+use Rattle.std.proofs.Common.{◌≡◌, ◌∙◌, sym}
 use denote.Floats.{passes}
 use lib.Ieee.{of_bits, lt, eq}
 use lib.Ieee.Bits.{of_bits-to_bits}

@@ -1,5 +1,4 @@
-use Prim.Native.Nat.{◌<◌, ◌+◌, ◌*◌, ◌%◌, ◌^◌}
-use native.Mathlib.Omega.{arith}
+use Rattle.std.proofs.Common.{◌<◌, ◌+◌, ◌*◌, ◌%◌, ◌^◌, arith}
 use Rattle.rounding.proofs.RootDigit.{bound, digit_one, digit_nought, moved}
 use Rattle.rounding.proofs.sqrt.whole_root.Goals as goal
 use Rattle.rounding.proofs.sqrt.whole_root.Goals.{In-loop-i, then-trial-next, else-trial-next}

@@ -1,4 +1,4 @@
-use Prim.Native.Nat.{◌≤◌}
+use Rattle.std.proofs.Common.{◌≤◌}
 use Rattle.rounding.proofs.RootDigit.{Turn}
 use Rattle.rounding.proofs.sqrt.whole_root.Given as goal
 

@@ -1,5 +1,6 @@
-use mathlib.Core.Path.{◌≡◌, refl}
-use lib.Ieee.{nan, to_bits}
+use Rattle.std.proofs.Common.{◌≡◌, refl}
+use Rattle.std.specs.Float.{nan}
+use lib.Ieee.{to_bits}
 use Rattle.float.proofs.Nan.{is_nan_lem, not_nan}
 use Rattle.float.proofs.floating.F32Floating.own_bits.Goals as goal
 

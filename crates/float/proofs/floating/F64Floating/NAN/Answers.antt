@@ -1,4 +1,4 @@
-use mathlib.Core.Path.{refl}
+use Rattle.std.proofs.Common.{refl}
 use lib.Ieee.{of_bits}
 use Rattle.float.proofs.floating.F64Floating.NAN.Goals as goal
 

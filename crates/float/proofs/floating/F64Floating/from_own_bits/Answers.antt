@@ -1,5 +1,6 @@
-use mathlib.Core.Path.{sym}
-use lib.Ieee.{binary64, of_bits}
+use Rattle.std.proofs.Common.{sym}
+use Rattle.std.specs.Float.{binary64}
+use lib.Ieee.{of_bits}
 use Rattle.float.proofs.Patterns.{nan_pattern, no_nan_pattern}
 use Rattle.float.proofs.floating.F64Floating.from_own_bits.Goals as goal
 
