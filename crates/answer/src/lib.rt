@@ -70,3 +70,17 @@ impl Refusal {
         }
     }
 }
+
+// An answer's number: that of its refusal, and 0 for an accepted call.
+pub fn number(answer: Answer) -> u32
+    ensures { result ≡ number_of answer }
+{
+    answer.err().map_or(0, Refusal::number)
+}
+
+// An answer's place: that of its refusal, and 0 for an accepted call.
+pub fn place(answer: Answer) -> usize
+    ensures { result ≡ place_of answer }
+{
+    answer.err().map_or(0, Refusal::place)
+}

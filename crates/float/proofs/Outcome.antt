@@ -13,3 +13,7 @@ SingleLent {L} {D} {A} {B} {C} Post left = (κs : L) (a : A κs) (r r' : B κs) 
 -- Of a function for every width, f stands for the width: whatever a value or a pattern is there, what the specifications see of it tells it from any other (the laws `same_value` and `same_number` of `Floating`).
 abbrev pub Known : {A N : Type 0} → (A → N) → Type 0
 Known {A} seen = (a b : A) → seen a ≡ seen b → a ≡ b
+
+-- so it is at f32 and at f64, where the specifications see the value or the pattern itself (`value` and `number` of their impls)
+pub known_itself : {A : Type 0} → Known {A} {A} (λ a. a)
+known_itself a b h = h

@@ -31,6 +31,13 @@ impl Rule {
     }
 }
 
+// The number that comes of a test of an entry: that of the rule that it breaks, and 0 where it breaks none.
+pub fn number(rule: Result<(), Rule>) -> u32
+    ensures { result ≡ rule_number rule }
+{
+    rule.err().map_or(0, Rule::number)
+}
+
 // Whether top stage k may be run on its next frame, in a block of `frames` frames with `tops` top stages:
 // if not, the first rule that this would break.
 pub fn may_run(tops: usize, frames: usize, progress: &[usize], k: usize) -> Result<(), Rule>

@@ -43,29 +43,26 @@ pub struct Room {
     pub floats: usize,
 }
 
-fn reply_of(answer: Answer) -> Reply
-    ensures { result ≡ reply_of answer }
-{
-    match answer {
-        Ok(()) => Reply {
-            number: 0,
-            place: 0,
-        },
-        Err(refusal) => Reply {
-            number: refusal.number(),
-            place: refusal.place(),
-        },
+impl From<Answer> for Reply {
+    ghost from_gives = { λ answer r. r ≡ reply_of answer };
+
+    #[tactic(auto, unfolding(crate::specs::Call::reply_of))]
+    fn from(answer: Answer) -> Reply {
+        Reply {
+            number: answer::number(answer),
+            place: answer::place(answer),
+        }
     }
 }
 
-// The floats that a store needs, where the reply is no refusal.
-fn room_of(reply: Reply, floats: usize) -> Room
-    ensures { result ≡ room_of reply floats }
+// A refusal of the floats that a store needs.
+fn no_room(refused: Reply) -> Room
+    ensures { result ≡ room_of refused 0 }
 {
     Room {
-        number: reply.number,
-        place: reply.place,
-        floats: if reply.number == 0 { floats } else { 0 },
+        number: refused.number,
+        place: refused.place,
+        floats: 0,
     }
 }
 
@@ -89,7 +86,7 @@ fn hand_back(
         floats.copy_from_slice(&outcome.memories.floats);
         progress.copy_from_slice(&outcome.progress);
     }
-    reply_of(given.map(|_| ()))
+    Reply::from(given.map(|_| ()))
 }
 
 // Runs top stages in the given order, each entry on that stage's next frame. The order need not finish
@@ -110,15 +107,11 @@ pub fn sedhavil_run(
 {
     match read_call(rate, stages, positions, floats, progress) {
         Ok(call) => {
-            let carried = call.carried;
-            let given = run(
-                call.setup,
-                samples,
-                carried.memories,
-                store,
-                carried.progress,
-                order,
-            );
+            let Outcome {
+                memories,
+                progress: done,
+            } = call.carried;
+            let given = run(call.setup, samples, memories, store, done, order);
             hand_back(given, positions, floats, progress)
         }
         Err(fault) => fault,
@@ -141,14 +134,11 @@ pub fn sedhavil_render(
 {
     match read_call(rate, stages, positions, floats, progress) {
         Ok(call) => {
-            let carried = call.carried;
-            let given = render(
-                call.setup,
-                samples,
-                carried.memories,
-                store,
-                carried.progress,
-            );
+            let Outcome {
+                memories,
+                progress: done,
+            } = call.carried;
+            let given = render(call.setup, samples, memories, store, done);
             hand_back(given, positions, floats, progress)
         }
         Err(fault) => fault,
@@ -173,7 +163,7 @@ pub fn sedhavil_start(
             let started = start(call.setup, store);
             positions.copy_from_slice(&started.memories.positions);
             floats.copy_from_slice(&started.memories.floats);
-            reply_of(started.answer)
+            Reply::from(started.answer)
         }
         Err(fault) => fault,
     }
@@ -187,9 +177,16 @@ pub fn sedhavil_floats_needed(rate: u32, stages: &[u64]) -> Room
     match read_setup(rate, stages) {
         Ok(setup) => {
             let floats = needed(setup);
-            room_of(reply_of(check_chain(&setup, floats, floats)), floats)
+            match check_chain(&setup, floats, floats) {
+                Ok(()) => Room {
+                    number: 0,
+                    place: 0,
+                    floats,
+                },
+                Err(refusal) => no_room(Reply::from(Err(refusal))),
+            }
         }
-        Err(fault) => room_of(fault, 0),
+        Err(fault) => no_room(fault),
     }
 }
 

@@ -46,14 +46,9 @@ fn check_words(stages: &[u64]) -> Result<(), Reply>
     ensures { result ≡ cond (some (λ i. decide (unknown_at stages.now i)) (count_of stages.now))
         (Err (reply 102 (first_of (λ i. decide (unknown_at stages.now i)) (count_of stages.now)))) (Ok tt) }
 {
-    let unknown = first_unknown(stages);
-    if unknown < stages.len() / WORDS {
-        Err(Reply {
-            number: 102,
-            place: unknown,
-        })
-    } else {
-        Ok(())
+    match first_unknown(stages) {
+        None => Ok(()),
+        Some(place) => Err(Reply { number: 102, place }),
     }
 }
 

@@ -19,21 +19,23 @@ pub struct WavHeader {
     pub size: u32,
 }
 
-#[tactic(auto, unfolding(crate::specs::Header::header_out))]
-fn header_out(given: Result<Header, HeaderRefusal>) -> WavHeader
-    ensures { result ≡ header_out given }
-{
-    match given {
-        Ok(Header { rate, size }) => WavHeader {
-            number: 0,
-            rate,
-            size,
-        },
-        Err(refusal) => WavHeader {
-            number: refusal.number(),
-            rate: 0,
-            size: 0,
-        },
+impl From<Result<Header, HeaderRefusal>> for WavHeader {
+    ghost from_gives = { λ answer out. out ≡ header_out answer };
+
+    #[tactic(auto, unfolding(crate::specs::Header::header_out))]
+    fn from(answer: Result<Header, HeaderRefusal>) -> WavHeader {
+        match answer {
+            Ok(Header { rate, size }) => WavHeader {
+                number: 0,
+                rate,
+                size,
+            },
+            Err(refusal) => WavHeader {
+                number: refusal.number(),
+                rate: 0,
+                size: 0,
+            },
+        }
     }
 }
 
@@ -42,7 +44,7 @@ fn header_out(given: Result<Header, HeaderRefusal>) -> WavHeader
 pub fn sedhavil_wav_header(bytes: &[u8], highest: u32) -> WavHeader
     ensures { result ≡ header_out (header_of bytes.now highest) }
 {
-    header_out(wav_header::read(bytes, highest))
+    WavHeader::from(wav_header::read(bytes, highest))
 }
 
 // Turns bytes into samples, as many whole frames as both slices have room for, and returns how many

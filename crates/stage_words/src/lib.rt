@@ -4,7 +4,7 @@
 #![tactic(auto)]
 
 ghost use Rattle.std.specs.Prelude.{◌≡◌, ◌+◌, ◌*◌, ◌<◌};
-ghost use Rattle.theory_tables.specs.First.{first_of};
+ghost use Rattle.theory_tables.specs.First.{found_of};
 ghost use Rattle.theory_tables.specs.Condition.{decide};
 ghost use Rattle.stage_words.specs.Words.{is_short, short_of, is_level, level_of, single_of, layout_version, is_stage, stage_of, word_count, word_at, length_from, count_of, stage_words, unknown_at, setup_of};
 
@@ -168,14 +168,11 @@ fn stage_words(words: &[u64], i: usize) -> StageWords
     }
 }
 
-// The list place of the first words that are no stage, or how many stages there are.
-pub fn first_unknown(words: &[u64]) -> usize
-    ensures { result ≡ first_of (λ i. decide (unknown_at words.now i)) (count_of words.now) }
+// The list place of the first words that are no stage, if there are such.
+pub fn first_unknown(words: &[u64]) -> Option<usize>
+    ensures { result ≡ found_of (λ i. decide (unknown_at words.now i)) (count_of words.now) }
 {
-    let count = words.len() / WORDS;
-    (0..count)
-        .find(|&i| !is_stage(stage_words(words, i)))
-        .unwrap_or(count)
+    (0..words.len() / WORDS).find(|&i| !is_stage(stage_words(words, i)))
 }
 
 // The chain that the words are, at this rate. Stages past the 16th are counted and not kept, and fewer than

@@ -5,7 +5,7 @@
 ghost use Rattle.std.specs.Prelude.{◌≡◌, Ok, Err, if◌then◌else◌};
 ghost use Rattle.theory_tables.specs.Condition.{decide};
 ghost use Rattle.wav_header.specs.declared.HeaderRefusal.TheVariants.{Names, Format, Rate, Size};
-ghost use Rattle.wav_header.specs.Header.{plain, refusal_number, names_wrong, format_wrong, rate_wrong, size_wrong, header_of};
+ghost use Rattle.wav_header.specs.Header.{plain, refusal_number, header_number, names_wrong, format_wrong, rate_wrong, size_wrong, header_of};
 ghost use Rattle.wav_bytes.specs.Bytes.{four_at};
 
 use wav_bytes::{four_at, two_at};
@@ -54,6 +54,13 @@ impl HeaderRefusal {
             HeaderRefusal::Short => 25,
         }
     }
+}
+
+// The number of the answer to a header: that of its refusal, and 0 for a header that is read.
+pub fn number(answer: Result<Header, HeaderRefusal>) -> u32
+    ensures { result ≡ header_number answer }
+{
+    answer.err().map_or(0, HeaderRefusal::number)
 }
 
 fn check_names(bytes: &[u8]) -> Result<(), HeaderRefusal>

@@ -14,7 +14,7 @@ pub returns-in-Ok-clause-answer : goal.returns-in-Ok-clause-answer
 unfolding start_reply
 returns-in-Ok-clause-answer c =
     let e = call_ok _ _ _ _ _ c.in-Ok.ensures in
-    rw (e.0, c.reply_of.ensures, c.start-started.ensures.answer.0, e.1)
+    rw (e.0, c.from.ensures, c.start-started.ensures.answer.0, e.1)
 
 pub returns-in-Ok-clause-leaves : goal.returns-in-Ok-clause-leaves
 unfolding start_leaves
