@@ -10,28 +10,28 @@ ghost use Rattle.integrators.specs.Integrators.{weights_of, stepped_of};
 use frame::Frame;
 
 // The two frames that a filter or an EQ remembers, by kira's names.
-#[derive(Clone, Copy)]
+#[derive(Clone, Copy, Debug, PartialEq)]
 pub struct Integrators {
     pub ic1eq: Frame,
     pub ic2eq: Frame,
 }
 
 // What a step makes of its input, by kira's names: v1 is what a band-pass lets through, v2 a low-pass.
-#[derive(Clone, Copy)]
+#[derive(Clone, Copy, Debug, PartialEq)]
 pub struct Parts {
     pub v1: Frame,
     pub v2: Frame,
 }
 
 // What a step gives: the two parts, and the two frames remembered after it.
-#[derive(Clone, Copy)]
+#[derive(Clone, Copy, Debug, PartialEq)]
 pub struct Stepped {
     pub parts: Parts,
     pub after: Integrators,
 }
 
 // What a filter or an EQ gives: the frame that comes out, and the two frames remembered after it.
-#[derive(Clone, Copy)]
+#[derive(Clone, Copy, Debug, PartialEq)]
 pub struct Filtered {
     pub output: Frame,
     pub after: Integrators,
