@@ -1,7 +1,8 @@
 // What kira's `filter.rs` and `eq_filter.rs` share: the two frames that each remembers, the weights
 // that g and k give, and the part of a step that renews the two frames. The two frames form one small
 // record. `step` takes and gives it by value; `step_in_place` changes it in place, by calling `step`;
-// `run`, which the filter and the EQ call, takes it by value and lends it on.
+// `run`, which the filter and the EQ call, takes it by value and lends it on. Document 01 asks for the
+// by-value form first and then for one thin function that is lent the record.
 #![tactic(auto)]
 
 ghost use Rattle.std.specs.Prelude.{◌≡◌};

@@ -1,7 +1,9 @@
 // kira's `reverb.rs`: on each side eight combs side by side, whose outputs are added up, then four
 // all-passes one after another; then the width and the mix. The left side's twelve lines come before
 // the right side's. Each line is lent alone to its comb or all-pass, as a part of the store. The store,
-// the positions and the floats go as three slices, since each is taken apart at a place of its own.
+// the positions and the floats go as three slices, since each is taken apart at a place of its own. The
+// loops count lines by k, since they walk the three together and lend each line as a `&mut` stretch;
+// after a zip of `iter_mut` a proof knows the lengths alone.
 #![tactic(auto)]
 
 ghost use Rattle.std.specs.Prelude.{◌≡◌, List, ◌+◌, ◌≤◌, Float, length, sum};
