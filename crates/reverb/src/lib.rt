@@ -95,7 +95,8 @@ fn widened(left: f32, right: f32, stereo_width: f32) -> Frame
 
 // One frame through a reverb at this rate. `store` begins with its lines, `positions` with their
 // positions and `floats` with what its combs remember. If one of the three is too short for a reverb,
-// the frame comes back and nothing changes.
+// the frame comes back and nothing changes. The settings stand side by side, since they are the numbers
+// of one case of `Stage` (document 01).
 pub fn process(
     input: Frame,
     rate: u32,
