@@ -1,5 +1,7 @@
 // What is worked out once for a call and holds throughout it, and with it the steps of top stages on a block
-// that was accepted, one after another.
+// that was accepted, one after another. Samples, store and outcome stay separate parameters: a record of
+// several `&mut`s has a contract in nested pairs at `.exit`, and no function can split it, since a function
+// lends on behalf of one lender only.
 ghost use Rattle.std.specs.Prelude.{◌≡◌, ◌-◌, ◌<◌, get_or, replicate, IfOk};
 ghost use Rattle.line_layout.specs.Layout.{starts_of};
 ghost use Rattle.top_stages.specs.Tops.{tops_of, tops_record};

@@ -11,7 +11,7 @@ use stage::setup::Setup;
 
 // What an accepted call gives back: the memories and the progress after it. Of a refused call the caller
 // still has what was passed in.
-#[derive(Clone, Copy)]
+#[derive(Clone, Copy, Debug, PartialEq)]
 pub struct Outcome {
     pub memories: Memories,
     pub progress: [usize; PLACES],

@@ -105,17 +105,19 @@ pub fn process(
 ) -> Filtered
     ensures { result ≡ eq_of kind g q gain memory input }
 {
-    let c = Coefficients::calculate(kind, g, q, gain);
-    let weights = Weights {
-        a1: c.a1,
-        a2: c.a2,
-        a3: c.a3,
-    };
+    let Coefficients {
+        a1,
+        a2,
+        a3,
+        m0,
+        m1,
+        m2,
+    } = Coefficients::calculate(kind, g, q, gain);
     let Stepped {
         parts: Parts { v1, v2 },
         after,
-    } = run_narrowed(memory, input, weights);
-    let dry = input.mul(as_f32(c.m0));
-    let output = dry.add(v1.mul(as_f32(c.m1))).add(v2.mul(as_f32(c.m2)));
+    } = run_narrowed(memory, input, Weights { a1, a2, a3 });
+    let dry = input.mul(as_f32(m0));
+    let output = dry.add(v1.mul(as_f32(m1))).add(v2.mul(as_f32(m2)));
     Filtered { output, after }
 }

@@ -1,6 +1,7 @@
 // kira's `Frame`, a pair of f32 by value. Its operations have the names of Rust's operator traits:
-// `a + b` is `a.add(b)`. With them stand mixing a wet with a dry frame, as most effects do, and
-// panning. Each operation rounds once, in the order written in the Rust.
+// `a + b` is `a.add(b)`, since document 01 wants named operations in place of operator traits. With
+// them stand mixing a wet with a dry frame, as most effects do, and panning. Each operation rounds
+// once, in the order written in the Rust.
 #![tactic(auto)]
 
 ghost use Rattle.std.specs.Prelude.{◌≡◌};

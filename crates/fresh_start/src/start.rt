@@ -12,7 +12,7 @@ use refusals::chain::check_chain;
 use stage::setup::Setup;
 
 // What a fresh start gives: its answer, and memories at zero, refused or not.
-#[derive(Clone, Copy)]
+#[derive(Clone, Copy, Debug, PartialEq)]
 pub struct Started {
     pub answer: Answer,
     pub memories: Memories,

@@ -1,7 +1,8 @@
 // What kira's `filter.rs` and `eq_filter.rs` share: the two frames that each remembers, the weights
 // that g and k give, and the part of a step that renews the two frames. The two frames form one small
 // record. `step` takes and gives it by value; `step_in_place` changes it in place, by calling `step`;
-// `run`, which the filter and the EQ call, takes it by value and lends it on.
+// `run`, which the filter and the EQ call, takes it by value and lends it on. Document 01 asks for the
+// by-value form first and then for one thin function that is lent the record.
 #![tactic(auto)]
 
 ghost use Rattle.std.specs.Prelude.{◌≡◌};
@@ -10,28 +11,28 @@ ghost use Rattle.integrators.specs.Integrators.{weights_of, stepped_of};
 use frame::Frame;
 
 // The two frames that a filter or an EQ remembers, by kira's names.
-#[derive(Clone, Copy)]
+#[derive(Clone, Copy, Debug, PartialEq)]
 pub struct Integrators {
     pub ic1eq: Frame,
     pub ic2eq: Frame,
 }
 
 // What a step makes of its input, by kira's names: v1 is what a band-pass lets through, v2 a low-pass.
-#[derive(Clone, Copy)]
+#[derive(Clone, Copy, Debug, PartialEq)]
 pub struct Parts {
     pub v1: Frame,
     pub v2: Frame,
 }
 
 // What a step gives: the two parts, and the two frames remembered after it.
-#[derive(Clone, Copy)]
+#[derive(Clone, Copy, Debug, PartialEq)]
 pub struct Stepped {
     pub parts: Parts,
     pub after: Integrators,
 }
 
 // What a filter or an EQ gives: the frame that comes out, and the two frames remembered after it.
-#[derive(Clone, Copy)]
+#[derive(Clone, Copy, Debug, PartialEq)]
 pub struct Filtered {
     pub output: Frame,
     pub after: Integrators,

@@ -17,7 +17,8 @@ use order_entries::check_order;
 use stage::setup::Setup;
 use top_stages::Tops;
 
-// What the checks give: the answer, the chain with where its lines lie, and the top stages.
+// What the checks give: the answer, the chain with where its lines lie, and the top stages. It is a record
+// and no `Result`, since layout and top stages are promised of a refused call too.
 #[derive(Clone, Copy, Debug, PartialEq)]
 pub struct Checked {
     pub answer: Answer,
@@ -25,7 +26,8 @@ pub struct Checked {
     pub tops: Tops,
 }
 
-// The checks in document 01's order, up to the first that refuses.
+// The checks in document 01's order, up to the first that refuses. A struct for the parameters would be made
+// for the one call below.
 fn first_refusal(
     setup: &Setup,
     needed: usize,

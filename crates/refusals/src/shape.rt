@@ -1,4 +1,5 @@
-// Refusal 3: a delay owns stages beyond the list's end or its owner's end, or a stage is too deep.
+// Refusal 3: a delay owns stages beyond the list's end or its owner's end, or a stage is too deep. Five
+// private functions ask for i < places, since each indexes the 16 slots.
 ghost use Rattle.std.specs.Prelude.{◌≡◌, ◌<◌};
 ghost use Rattle.theory_tables.specs.First.{found_of};
 ghost use Rattle.theory_tables.specs.Condition.{decide, among};

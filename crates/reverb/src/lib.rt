@@ -1,7 +1,9 @@
 // kira's `reverb.rs`: on each side eight combs side by side, whose outputs are added up, then four
 // all-passes one after another; then the width and the mix. The left side's twelve lines come before
 // the right side's. Each line is lent alone to its comb or all-pass, as a part of the store. The store,
-// the positions and the floats go as three slices, since each is taken apart at a place of its own.
+// the positions and the floats go as three slices, since each is taken apart at a place of its own. The
+// loops count lines by k, since they walk the three together and lend each line as a `&mut` stretch;
+// after a zip of `iter_mut` a proof knows the lengths alone.
 #![tactic(auto)]
 
 ghost use Rattle.std.specs.Prelude.{◌≡◌, List, ◌+◌, ◌≤◌, Float, length, sum};
@@ -93,7 +95,8 @@ fn widened(left: f32, right: f32, stereo_width: f32) -> Frame
 
 // One frame through a reverb at this rate. `store` begins with its lines, `positions` with their
 // positions and `floats` with what its combs remember. If one of the three is too short for a reverb,
-// the frame comes back and nothing changes.
+// the frame comes back and nothing changes. The settings stand side by side, since they are the numbers
+// of one case of `Stage` (document 01).
 pub fn process(
     input: Frame,
     rate: u32,

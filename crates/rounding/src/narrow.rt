@@ -22,10 +22,7 @@ fn narrowed(field: u64, digits: u64) -> u64
     if field < 897 {
         return nearest_quotient(q, 1 << (926 - field));
     }
-    u64::min(
-        (field - 897) * 0x80_0000 + nearest_quotient(q, 0x2000_0000),
-        0x7f80_0000,
-    )
+    ((field - 897) * 0x80_0000 + nearest_quotient(q, 0x2000_0000)).min(0x7f80_0000)
 }
 
 // Rust's `x as f32`: the f32 nearest to x, a tie going to the even one. A number too large becomes an

@@ -48,9 +48,7 @@ fn nearest_root(w: u64, n: u64) -> u64
     requires { n ≤ 53 }
     ensures { (result ≡ nearest_root (w * 4 ^ n / 2 ^ 64)) × (result ≤ 2 ^ n) }
 {
-    let found = whole_root(w, n);
-    let digits = found.digits;
-    let rest = found.rest;
+    let Root { digits, rest } = whole_root(w, n);
     if digits < rest { digits + 1 } else { digits }
 }
 
@@ -59,7 +57,7 @@ fn scaled_root(q: u64, j: u64, p: u64) -> Scaled
     requires { Rootable q j p }
     ensures { ScaledRoot q j p result.digits result.places }
 {
-    let zeros = u64::leading_zeros(q) as u64;
+    let zeros = q.leading_zeros() as u64;
     let length = j + 64 - zeros;
     let places = (length + 1) / 2 - p;
     let shift = if length % 2 == 0 { zeros } else { zeros - 1 };
@@ -80,7 +78,7 @@ fn root_bits<F: Floating>(b: u64) -> u64
     } else {
         scaled_root(F::HIDDEN + digits, F::PLACES + (field - 1), F::DIGITS)
     };
-    u64::min(root.places * F::HIDDEN + root.digits, F::INFINITY)
+    (root.places * F::HIDDEN + root.digits).min(F::INFINITY)
 }
 
 // Rust's `sqrt`, correctly rounded. -0 gives -0; a number below 0 and NaN give NaN.

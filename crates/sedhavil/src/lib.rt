@@ -28,7 +28,7 @@ use refusals::chain::check_chain;
 // and 102 are calls that cannot be read: 101's place is a slice (0 stages, 1 positions, 2 floats, 3
 // progress), 102's is a list place. The other numbers and their places are document 01's.
 #[repr(C)]
-#[derive(Clone, Copy)]
+#[derive(Clone, Copy, Debug, PartialEq, Eq)]
 pub struct Reply {
     pub number: u32,
     pub place: usize,
@@ -36,7 +36,7 @@ pub struct Reply {
 
 // How many floats a store needs, where the number is 0. A refusal comes with 0 floats.
 #[repr(C)]
-#[derive(Clone, Copy)]
+#[derive(Clone, Copy, Debug, PartialEq, Eq)]
 pub struct Room {
     pub number: u32,
     pub place: usize,

@@ -12,7 +12,7 @@ use wav_header::{Header, HeaderRefusal};
 // The answer to a header: number 0, its rate and its data size if it is read; otherwise document 01's
 // number, 21 to 25, and zeros.
 #[repr(C)]
-#[derive(Clone, Copy)]
+#[derive(Clone, Copy, Debug, PartialEq, Eq)]
 pub struct WavHeader {
     pub number: u32,
     pub rate: u32,

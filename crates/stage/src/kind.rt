@@ -8,7 +8,7 @@ use filters::filter::FilterMode;
 use plain_effects::distortion::DistortionKind;
 
 // A stage with its settings, in document 01's units: volume, drive, gain and a delay's feedback are whole
-// dB, and g is a tangent. Any numbers may be written here; `range::in_range` says which are accepted.
+// dB, and g is a tangent. Any numbers may be written here; `Stage::in_range` says which are accepted.
 #[derive(Clone, Copy, Debug, PartialEq)]
 pub enum Stage {
     VolumeControl {
@@ -49,7 +49,8 @@ pub enum Stage {
     },
 }
 
-// The lines of a stage.
+// The lines of a stage. No lines is a third case, and no `Option`, since each `match` on a stage's lines has
+// these three cases.
 #[derive(Clone, Copy, Debug, PartialEq, Eq)]
 pub enum Lines {
     NoLines,

@@ -1,7 +1,9 @@
 // One frame through a stage of any kind (`step`), through a delay with its feedback stages
 // (`delay_stage`), and through stages one after another (`span`). The three call each other. They end,
 // since a `span` leads only to others with fewer places to run; and the depth goes down from a delay to
-// its feedback stages.
+// its feedback stages. Store, positions and floats stay separate parameters: a record of several `&mut`s
+// has a contract in nested pairs at `.exit`, and no function can split it, since a function lends on
+// behalf of one lender only.
 ghost use Rattle.std.specs.Prelude.{◌≡◌, ℕ, ◌+◌, ◌-◌, ◌≤◌, ◌<◌};
 ghost use Rattle.line.specs.Held.{holds, ran};
 ghost use Rattle.memories.specs.Sizes.{places};

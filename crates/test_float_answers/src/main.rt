@@ -2,7 +2,8 @@
 // sample.rt, frames.rt and coefficients.rt, which also have Rust's and kira's own answers to them. Writes
 // for each operation how many answers are the same, bit for bit with all NaNs counted as one, and at which
 // indices they differ. The last answers of each are spoilt, and so must differ: a comparison that sees
-// nothing is seen.
+// nothing is seen. Inputs and answers are two lists, since one list of pairs takes ten times as long to
+// check.
 #![tactic(auto)]
 
 ghost use Rattle.std.specs.Iterator.{IsFinite};

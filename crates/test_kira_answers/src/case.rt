@@ -27,6 +27,7 @@ const ORDER: usize = 6;
 const CHANGES: usize = 7;
 
 // What came of a call: the number that it answered, and whether it answered and left what the case says.
+// Both values are always there, so it is a record and no enum.
 #[derive(Clone, Copy)]
 pub(crate) struct Judged {
     pub number: u32,

@@ -2,7 +2,8 @@
 use crate::case::Judged;
 use std::io;
 
-// The numbers that are counted apart. What none of them is counts as the last.
+// The numbers that are counted apart. What none of them is counts as the last. They are a list beside
+// `answers`, and no pairs with it, since they are constant.
 const NUMBERS: [u32; 14] = [0, 1, 2, 3, 4, 5, 6, 7, 8, 9, 10, 11, 101, 102];
 
 // How many calls had each number as their answer, how many differ, and which was the first to differ and the

@@ -11,7 +11,8 @@ fn byte_at(bytes: &[u8], at: usize) -> u8
     bytes.get(at).copied().unwrap_or(0)
 }
 
-// The N bytes from place `at` on.
+// The N bytes from place `at` on, by a `for`: the clause of `array::from_fn` did not give a proof the values
+// that its closure captures.
 fn bytes_at<const N: usize>(bytes: &[u8], at: usize) -> [u8; N]
     ensures { (k : ℕ) → k < N → get_or result k 0 ≡ get_or bytes.now (at + k) 0 }
 {

@@ -17,6 +17,6 @@ returns c =
       c.mul-dry.ensures,
       c.as_f32.ensures,
       c.run_narrowed.ensures,
-      c.calculate-c.ensures,
+      c.calculate-a1.ensures,
       to_z-of_z w32 c.args.gain c.ranges.gain,
     )

@@ -1,5 +1,5 @@
 -- `start::start` meets its contract: an accepted chain has room for what is cleared. Assumes nothing.
-use Rattle.std.proofs.Common.{◌≡◌, ℕ, ◌≤◌, Bool, true, false, List, length, Float, refl, sym, ap, ◌∙◌, arith}
+use Rattle.std.proofs.Common.{◌≡◌, ℕ, ◌≤◌, Bool, true, List, length, Float, refl, sym, ap, ◌∙◌, arith}
 use Rattle.line_layout.specs.Layout.{needed_of}
 use Rattle.stage.specs.declared.setup.Setup.{Setup}
 use Rattle.answer.specs.Answer.{Answer, accepted_of}
