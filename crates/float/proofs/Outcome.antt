@@ -15,5 +15,5 @@ abbrev pub Known : {A N : Type 0} → (A → N) → Type 0
 Known {A} seen = (a b : A) → seen a ≡ seen b → a ≡ b
 
 -- so it is at f32 and at f64, where the specifications see the value or the pattern itself (`value` and `number` of their impls)
-pub known_itself : {A : Type 0} → Known {A} {A} (λ a. a)
+pub known_itself : {A : Type 0} → Known {A = A} {N = A} (λ (a : A). a)
 known_itself a b h = h
