@@ -1,3 +1,4 @@
+pub mod BlockTaken
 pub mod Calls
 pub mod Needed
 pub mod OneOutcome

@@ -1,5 +1,5 @@
 -- Words that cannot be read are refused; any other chain gets what `check_chain` promises of a store of the needed floats. Assumes nothing.
-use Rattle.std.proofs.Common.{sym, ◌∙◌, Err}
+use Rattle.std.proofs.Common.{Err}
 use Rattle.answer.proofs.Numbered.{accepted_numbered}
 use Rattle.sedhavil.specs.Call.{reply_of, room_of}
 use Rattle.sedhavil.specs.Face.{needed_room}
