@@ -7,3 +7,4 @@ pub mod Clamps
 pub mod Finites
 pub mod Outcome
 pub mod OneOutcome
+pub mod AtEachWidth

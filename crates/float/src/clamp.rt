@@ -18,10 +18,10 @@ pub fn abs(x: f32) -> f32
 fn clamp<F: Floating>(x: F, lower: F, upper: F) -> F
     ensures { F.value result ≡ clamp_of (F.value lower) (F.value upper) (F.value x) }
 {
-    if x < lower {
+    if x.is_below(lower) {
         return lower;
     }
-    if x > upper {
+    if upper.is_below(x) {
         return upper;
     }
     x

@@ -1,7 +1,7 @@
 // f32 and f64 seen as one: what the code needs that Rust has at each of the two apart.
 ghost use Rattle.std.specs.Prelude.{◌≡◌, ◌*◌, ◌%◌, ℕ, true, Float, refl};
 ghost use Rattle.std.specs.Float.{Format, binary32, binary64, nan};
-ghost use Rattle.std.specs.Float.Ieee.{eq, fits, hid, low, of_bits, ones, prec, to_bits, top};
+ghost use Rattle.std.specs.Float.Ieee.{eq, fits, hid, low, lt, of_bits, ones, prec, to_bits, top};
 ghost use Rattle.std.specs.Ordering.{float_partial_cmp};
 ghost use Rattle.float.specs.Literal.{literal};
 
@@ -68,6 +68,10 @@ pub trait Floating: Copy + PartialOrd {
     // The low bits, as many as there is room for.
     fn narrow(bits: u64) -> Self::Bits
         ensures { number result ≡ bits % (2 * top format) };
+
+    // Rust's `<` of the width itself: that of `PartialOrd` is compiled to jumps.
+    fn is_below(self, other: Self) -> bool
+        ensures { result ≡ lt (value self) (value other) };
 
     ghost zero_is: { value ZERO ≡ literal format 0 1 };
 
@@ -157,6 +161,10 @@ impl Floating for f32 {
         (bits % 0x1_0000_0000) as u32
     }
 
+    fn is_below(self, other: f32) -> bool {
+        self < other
+    }
+
     ghost zero_is = { refl };
 
     ghost one_is = { refl };
@@ -243,6 +251,10 @@ impl Floating for f64 {
 
     fn narrow(bits: u64) -> u64 {
         bits
+    }
+
+    fn is_below(self, other: f64) -> bool {
+        self < other
     }
 
     ghost zero_is = { refl };

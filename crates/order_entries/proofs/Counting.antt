@@ -1,7 +1,6 @@
--- The check of an order, entry by entry: an entry is stuck exactly where it breaks a rule, and the loop that counts progress and looks for the first such entry. Assumes nothing.
-use Rattle.std.proofs.Common.{◌≡◌, refl, ap, sym, ◌∙◌, Bool, true, false, cond, ◌||◌, true≢false, List, ◌∷◌, ℕ, ◌+◌, ◌-◌, ◌<◌, arith, lt_of_not-le, add-one, length, get_or, take, drop, length-drop, take-suc, get_or-drop, drop-drop, Result, Ok, Err}
-use Rattle.std.specs.Prelude.{⊤}
-use Rattle.std.specs.Result.{is_err}
+-- The check of an order, entry by entry: an entry is stuck exactly where the test of it has a number, and the loop that counts progress and looks for the first such entry. Assumes nothing.
+use Rattle.std.proofs.Common.{◌≡◌, refl, ap, sym, ◌∙◌, Bool, true, false, cond, not, ◌||◌, List, ◌∷◌, ℕ, ◌+◌, ◌-◌, ◌<◌, arith, lt_of_not-le, add-one, length, get_or, take, drop, length-drop, take-suc, get_or-drop, drop-drop, eqb, eq-eqb, ne_eqb, Err}
+use mathlib.Core.Logic.{◌≢◌}
 use Rattle.theory_order.specs.Order.{run}
 use Rattle.theory_order.proofs.Orders.{run_append}
 use Rattle.theory_tables.specs.Condition.{decide}
@@ -11,18 +10,13 @@ use Rattle.theory_tables.proofs.Tables.{no_row}
 use Rattle.theory_tables.proofs.Tested.{Gives, row_found, row_not_found, row_none}
 use Rattle.answer.specs.declared.Refusal.TheVariants.{Entry}
 use Rattle.answer.specs.Answer.{accepted}
-use Rattle.order_entries.specs.declared.Rule.{Rule}
 use Rattle.order_entries.specs.declared.Rule.TheVariants.{NoStage, AtEnd, Level}
 use Rattle.order_entries.specs.Entries.{no_stage, at_end, level_with_before, unbroken, entry_rows, rule_number, rule_of, tick, stuck, order_rows, order_answer}
 
-kept : (rule : Result ⊤ Rule) → is_err rule ≡ false → rule_number rule ≡ 0
-kept (Ok nothing) h = refl
-kept (Err rule) h = absurd (true≢false h)
-
 -- a stage that may be run has a frame left
-pub kept_room : (tops frames : ℕ) (progress : List ℕ) (k : ℕ) → is_err (rule_of tops frames progress k) ≡ false → get_or progress k 0 < frames
+pub kept_room : (tops frames : ℕ) (progress : List ℕ) (k : ℕ) → rule_number (rule_of tops frames progress k) ≡ 0 → get_or progress k 0 < frames
 unfolding rule_of
-kept_room tops frames progress k h = lt_of_not-le (no_row rule_number (λ rule. 0) unbroken (entry_rows tops frames progress k) (omega arith) (kept _ h)).1.0
+kept_room tops frames progress k e = lt_of_not-le (no_row rule_number (λ rule. 0) unbroken (entry_rows tops frames progress k) (omega arith) e).1.0
 
 module _ (tops frames : ℕ) (progress order : List ℕ) where
   -- the progress when i entries are counted
@@ -32,11 +26,11 @@ module _ (tops frames : ℕ) (progress order : List ℕ) where
   abbrev test : ℕ → Bool
   test i = decide (stuck tops frames progress order i)
 
-  stuck_ruled : (i : ℕ) → test i ≡ is_err (rule_of tops frames (at i) (get_or order i 0))
+  pub stuck_numbered : (i : ℕ) → test i ≡ not (eqb (rule_number (rule_of tops frames (at i) (get_or order i 0))) 0)
   unfolding stuck rule_of first_row
-  stuck_ruled i = let k = get_or order i 0 in go (decide (no_stage tops k)) (decide (at_end frames (at i) k)) (decide (level_with_before (at i) k))
+  stuck_numbered i = let k = get_or order i 0 in go (decide (no_stage tops k)) (decide (at_end frames (at i) k)) (decide (level_with_before (at i) k))
     where
-      go : (a b c : Bool) → (a || b || c) ≡ is_err (cond a (Err NoStage) (cond b (Err AtEnd) (cond c (Err Level) unbroken)))
+      go : (a b c : Bool) → (a || b || c) ≡ not (eqb (rule_number (cond a (Err NoStage) (cond b (Err AtEnd) (cond c (Err Level) unbroken)))) 0)
       go true b c = refl
       go false true c = refl
       go false false true = refl
@@ -73,18 +67,22 @@ module _ (tops frames : ℕ) (progress order : List ℕ) where
         let q : s.read + 0 ≡ s.read = omega arith in
         sym (ap (λ (xs : List ℕ). get_or xs 0 0) (sym s.rest ∙ e)) ∙ get_or-drop s.read order 0 0 ∙ ap (λ i. get_or order i 0) q
 
-    tested : test s.read ≡ is_err (rule_of tops frames counted k)
-    tested = rw (here, s.counts) (stuck_ruled s.read)
+    -- of the test of it
+    abbrev pub number : ℕ
+    number = rule_number (rule_of tops frames counted k)
 
-    pub count_found : is_err (rule_of tops frames counted k) ≡ true → Err (Entry (length order - length unread)) ≡ order_answer tops frames progress order
+    tested : test s.read ≡ not (eqb number 0)
+    tested = rw (here, s.counts) (stuck_numbered s.read)
+
+    pub count_found : number ≢ 0 → Err (Entry (length order - length unread)) ≡ order_answer tops frames progress order
     count_found q =
         let r : length order - length unread ≡ s.read = omega (arith, count_unread s, s.looked.within) in
-        rw r (row_found table (look_some s.looked more (tested ∙ q)))
+        rw r (row_found table (look_some s.looked more (tested ∙ ap not (ne_eqb number 0 q))))
 
-    pub count_on : is_err (rule_of tops frames counted k) ≡ false → Counted (tick k counted) rest
+    pub count_on : number ≡ 0 → Counted (tick k counted) rest
     count_on q = record {
       read = s.read + 1;
-      looked = look_on s.looked more (tested ∙ q);
+      looked = look_on s.looked more (tested ∙ ap not (eq-eqb number 0 q));
       counts = rw (here, s.counts) (sym (ap (λ (xs : List ℕ). run tick progress xs) (ap (λ (n : ℕ). take n order) (add-one s.read) ∙ take-suc order s.read 0 more) ∙ run_append tick (take s.read order) _ progress));
       rest = ap (drop 1) (sym e ∙ s.rest) ∙ drop-drop 1 s.read order;
     }

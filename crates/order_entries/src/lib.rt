@@ -71,7 +71,7 @@ pub fn check_order(
     let mut counted = *progress;
     let mut unread = order;
     while let Some((&k, rest)) = unread.split_first() {
-        if may_run(tops, frames, &counted, k).is_err() {
+        if number(may_run(tops, frames, &counted, k)) != 0 {
             return Err(Refusal::Entry(order.len() - unread.len()));
         }
         if k < PLACES {

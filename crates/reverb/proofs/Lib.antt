@@ -3,3 +3,4 @@ pub mod Levels
 pub mod Sides
 pub mod Keeps
 pub mod OneOutcome
+pub mod FirstLine

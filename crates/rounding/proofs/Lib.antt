@@ -9,3 +9,4 @@ pub mod Aligned
 pub mod RootLaw
 pub mod Narrowing
 pub mod OneOutcome
+pub mod AtEachWidth

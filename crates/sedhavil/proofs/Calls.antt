@@ -1,20 +1,13 @@
--- Laws of reading a call: what it says of the lengths, and how a call goes on that can be read. Assumes nothing.
+-- Laws of reading a call: what it gives, and what it says of the lengths. Assumes nothing.
 use Rattle.std.proofs.Common.{◌≡◌, refl, sym, ap, ◌∙◌, true≢false, Bool, true, false, cond, ℕ, List, length, Float, eqb, eqb-true, Result, Ok, Err, is_ok}
 use mathlib.Core.Logic.Dec
 use native.Mathlib.Decide.{ℕ_discrete}
-use Rattle.line.specs.Held.{Held}
-use Rattle.theory_order.specs.Chain.{State}
 use Rattle.memories.specs.Sizes.{places, all_positions, all_floats}
 use Rattle.stage.specs.declared.setup.Setup.{Setup}
-use Rattle.answer.specs.declared.Refusal.{Refusal}
-use Rattle.answer.specs.Answer.{Answer}
-use Rattle.chain.specs.declared.run.Outcome.{Outcome}
-use Rattle.chain.specs.Chain.{state}
-use Rattle.chain.specs.Block.{block, answer_given, carried}
 use Rattle.stage_words.specs.Words.{setup_of}
 use Rattle.sedhavil.specs.declared.Reply.{Reply}
 use Rattle.sedhavil.specs.declared.read.Call.{Call}
-use Rattle.sedhavil.specs.Call.{reply_of, fault_of, read}
+use Rattle.sedhavil.specs.Call.{fault_of, read}
 use Rattle.sedhavil.specs.Read.{carried_in, call_of, setup_or_fault}
 use Rattle.sedhavil.specs.Face.{words_fault}
 use Rattle.sedhavil.proofs.Tabled.{fault_tabled}
@@ -77,25 +70,6 @@ module _ (rate : ℕ) (words p : List ℕ) (f : List Float) (g : List ℕ) where
 
   pub call_sized : {call : Call} → Ok call ≡ call_of rate words p f g → Sized (length p) (length f) (length g)
   call_sized e = sized words (call_ok e).0
-
-  -- ---- and on a block
-  module _ (xs st : List Float) where
-    abbrev lent : State Float Held
-    lent = state xs st p f g
-
-    -- what `run` or `render` promises of a call, handed back
-    module _ {call : Call} (given : Result Outcome Refusal) (e : Ok call ≡ call_of rate words p f g) where
-      pub taken_answer : (answering : Setup → State Float Held → Answer) {r : Reply}
-          → answer_given given ≡ answering call.setup (block xs st call.carried)
-          → r ≡ reply_of (answer_given given)
-          → r ≡ read fault (reply_of (answering (setup_of rate words) lent)) fault
-      taken_answer answering a r = let c = call_ok e in rw (r, a, c.1, c.0)
-
-      pub taken_leaves : (leaving : Setup → State Float Held → State Float Held) {xs' st' f' : List Float} {p' g' : List ℕ}
-          → block xs' st' (carried call.carried.memories call.carried.progress given) ≡ leaving call.setup (block xs st call.carried)
-          → carried_in p' f' g' ≡ carried (record { positions = p; floats = f }) g given
-          → state xs' st' p' f' g' ≡ read fault (leaving (setup_of rate words) lent) lent
-      taken_leaves leaving {xs'} {st'} l h = let c = call_ok e in ap (block xs' st') h ∙ (rw c.1 at l) ∙ sym (rw c.0)
 
 -- ---- words alone
 pub setup_ok : (rate : ℕ) (words : List ℕ) {setup : Setup} → Ok setup ≡ setup_or_fault rate words → (eqb (words_fault words).number 0 ≡ true) × (setup ≡ setup_of rate words)

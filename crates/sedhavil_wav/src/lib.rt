@@ -24,14 +24,11 @@ impl From<Result<Header, HeaderRefusal>> for WavHeader {
 
     #[tactic(auto, unfolding(crate::specs::Header::header_out))]
     fn from(answer: Result<Header, HeaderRefusal>) -> WavHeader {
+        let number = wav_header::number(answer);
         match answer {
-            Ok(Header { rate, size }) => WavHeader {
-                number: 0,
-                rate,
-                size,
-            },
-            Err(refusal) => WavHeader {
-                number: refusal.number(),
+            Ok(Header { rate, size }) => WavHeader { number, rate, size },
+            Err(_) => WavHeader {
+                number,
                 rate: 0,
                 size: 0,
             },

@@ -29,26 +29,41 @@ fn is_same(a: &Ended, b: &Ended) -> bool {
         && a.memories.positions == b.memories.positions
 }
 
+fn compare(rt: &impl Print, name: &str, ended: &Ended, first: &Ended) -> io::Result<()> {
+    let bits = if is_same(ended, first) {
+        "the same"
+    } else {
+        "other"
+    };
+    println!(rt; "{name}: {bits} bits")
+}
+
+// What each way leaves is gone before the next begins: all of them at once, in a list, take more stack than
+// some threads have.
 fn main(rt: HostRuntime) -> io::Result<()> {
-    let first = echo(&by_frame::<WHOLE>());
+    let first = &echo(&by_frame::<WHOLE>());
     say_bits(&rt, "frame 150, left", first.samples[300])?;
     say_bits(&rt, "frame 4095, right", first.samples[8191])?;
-    let others = [
-        ("one block, stage after stage", echo(&by_stage::<WHOLE>())),
-        ("64 blocks, frame after frame", echo(&by_frame::<PART>())),
-        ("64 blocks, stage after stage", echo(&by_stage::<PART>())),
-        ("a spoilt sample", spoilt::sample(first)),
-        ("a spoilt line", spoilt::line(first)),
-        ("a spoilt float", spoilt::float(first)),
-        ("a spoilt position", spoilt::position(first)),
-    ];
-    for (name, ended) in &others {
-        let bits = if is_same(ended, &first) {
-            "the same"
-        } else {
-            "other"
-        };
-        println!(rt; "{name}: {bits} bits")?;
-    }
-    Ok(())
+    compare(
+        &rt,
+        "one block, stage after stage",
+        &echo(&by_stage::<WHOLE>()),
+        first,
+    )?;
+    compare(
+        &rt,
+        "64 blocks, frame after frame",
+        &echo(&by_frame::<PART>()),
+        first,
+    )?;
+    compare(
+        &rt,
+        "64 blocks, stage after stage",
+        &echo(&by_stage::<PART>()),
+        first,
+    )?;
+    compare(&rt, "a spoilt sample", &spoilt::sample(*first), first)?;
+    compare(&rt, "a spoilt line", &spoilt::line(*first), first)?;
+    compare(&rt, "a spoilt float", &spoilt::float(*first), first)?;
+    compare(&rt, "a spoilt position", &spoilt::position(*first), first)
 }

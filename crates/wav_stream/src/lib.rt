@@ -4,7 +4,7 @@
 // input. After a failed write nothing more is written, and no message either.
 #![tactic(auto)]
 
-ghost use Rattle.std.specs.Prelude.{◌≤◌, length};
+ghost use Rattle.std.specs.Prelude.{◌≤◌, ◌<◌, length};
 
 use answer::Refusal;
 use chain::render::render;
@@ -52,8 +52,8 @@ impl Stop {
     // The number to write, if any.
     fn number(self) -> Option<u32> {
         match self {
-            Stop::Header(refusal) => Some(refusal.number()),
-            Stop::Chain(refusal) => Some(refusal.number()),
+            Stop::Header(refusal) => Some(wav_header::number(Err(refusal))),
+            Stop::Chain(refusal) => Some(answer::number(Err(refusal))),
             Stop::Write => None,
         }
     }
@@ -75,18 +75,39 @@ fn read_full(rt: &impl Input, bytes: &mut [u8]) -> usize
     done
 }
 
-// Reads, renders and writes one block of as many frames as the bytes have room for, and returns the
-// memories after it. Where the input ends before, what came of the block is written first.
+// How many of the bytes that are left the next block takes: 4,096 frames at most.
+fn block_bytes(remaining: usize) -> usize
+    ensures { (result ≤ remaining) × (result ≤ 16384) × (0 < remaining → 0 < result) }
+{
+    BLOCK_BYTES.min(remaining)
+}
+
+// Reads `want` bytes, or as many as there are, and returns how many.
+fn read_block(rt: &impl Input, bytes: &mut [u8], want: usize) -> usize
+    requires { want ≤ length bytes.old }
+    ensures { result ≤ want }
+{
+    read_full(rt, &mut bytes[..want])
+}
+
+// Reads, renders and writes one block of the data of which so many bytes are left, and returns the memories
+// after it. Where the input ends before, what came of the block is written first. What lies after the data
+// is not read.
 #[tactic(auto, unfolding(wav_samples::specs::Frames::whole_frames))]
 fn block(
     rt: &(impl Input + Print + Eprint),
     setup: Setup,
     memories: Memories,
-    bytes: &mut [u8],
+    remaining: usize,
+    bytes: &mut [u8; BLOCK_BYTES],
     samples: &mut [f32; BLOCK_SAMPLES],
     store: &mut [f32],
-) -> Result<Memories, Stop> {
-    let got = read_full(rt, bytes);
+) -> Result<Memories, Stop>
+    requires { 0 < remaining }
+{
+    let want = block_bytes(remaining);
+    prove!(0 < want && want <= remaining);
+    let got = read_block(rt, bytes, want);
     let frames = frames_in(&bytes[..got], samples);
     let outcome = render(
         setup,
@@ -97,7 +118,7 @@ fn block(
     )?;
     frames_out(samples, bytes);
     rt.write_all(&bytes[..4 * frames])?;
-    if got < bytes.len() {
+    if got < want {
         return Err(Stop::Header(HeaderRefusal::Short));
     }
     Ok(outcome.memories)
@@ -115,8 +136,15 @@ fn blocks(
     let mut samples = [0.0; BLOCK_SAMPLES];
     let mut held = memories;
     for done in (0..size).step_by(BLOCK_BYTES) {
-        let want = BLOCK_BYTES.min(size - done);
-        held = block(rt, setup, held, &mut bytes[..want], &mut samples, store)?;
+        held = block(
+            rt,
+            setup,
+            held,
+            size - done,
+            &mut bytes,
+            &mut samples,
+            store,
+        )?;
     }
     Ok(())
 }

@@ -2,7 +2,8 @@
 use Rattle.std.proofs.Common.{[]}
 use Rattle.chain.specs.Run.{answer_on, rendered_of}
 use Rattle.sedhavil.specs.Face.{render_reply, render_leaves}
-use Rattle.sedhavil.proofs.Calls.{call_err, call_sized, taken_answer, taken_leaves}
+use Rattle.sedhavil.proofs.BlockTaken.{taken_answer, taken_leaves}
+use Rattle.sedhavil.proofs.Calls.{call_err, call_sized}
 use Rattle.sedhavil.proofs.sedhavil_render.Goals as goal
 
 pub hand_back-requires-clause-positions : goal.hand_back-requires-clause-positions

@@ -1,7 +1,8 @@
 -- A call that cannot be read is refused; of any other, what `run` promises, of the chain that the words are and of what was lent. Assumes nothing.
 use Rattle.chain.specs.Run.{answer_on, leaves_of}
 use Rattle.sedhavil.specs.Face.{run_reply, run_leaves}
-use Rattle.sedhavil.proofs.Calls.{call_err, call_sized, taken_answer, taken_leaves}
+use Rattle.sedhavil.proofs.BlockTaken.{taken_answer, taken_leaves}
+use Rattle.sedhavil.proofs.Calls.{call_err, call_sized}
 use Rattle.sedhavil.proofs.sedhavil_run.Goals as goal
 
 pub hand_back-requires-clause-positions : goal.hand_back-requires-clause-positions
