@@ -14,28 +14,18 @@ pub struct Layout {
     pub starts: [usize; ENDS],
 }
 
-// Where in the store the lines of each place start, and, last, where they all end.
-#[tactic(auto, using(crate::proofs::LineStarts::start_more, stage::proofs::Listed::listed_more), unfolding(crate::specs::Layout::start_of))]
-fn starts_of(setup: &Setup) -> [usize; ENDS]
-    ensures { result ≡ starts_of setup.now }
-{
-    let mut starts = [0; ENDS];
-    for (i, slot) in setup.slots.iter().enumerate() {
-        starts[i + 1] = starts[i] + floats_of(setup.rate, slot.stage);
-    }
-    starts
-}
-
 impl Layout {
     // The chain, laid out.
+    #[tactic(auto, using(crate::proofs::LineStarts::start_more, stage::proofs::Listed::listed_more), unfolding(crate::specs::Layout::start_of))]
     pub fn of(setup: Setup) -> Layout
         ensures setup { result.setup ≡ setup }
         ensures starts { result.starts ≡ starts_of setup }
     {
-        Layout {
-            starts: starts_of(&setup),
-            setup,
+        let mut starts = [0; ENDS];
+        for (i, slot) in setup.slots.iter().enumerate() {
+            starts[i + 1] = starts[i] + floats_of(setup.rate, slot.stage);
         }
+        Layout { setup, starts }
     }
 
     // How many floats the lines of places i to e - 1 have, by the list of starts.
@@ -52,6 +42,5 @@ impl Layout {
 pub fn needed(setup: Setup) -> usize
     ensures { result ≡ needed_of setup }
 {
-    let starts = starts_of(&setup);
-    starts[setup.used()]
+    Layout::of(setup).starts[setup.used()]
 }

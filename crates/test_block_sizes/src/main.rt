@@ -4,6 +4,8 @@
 // one place of each of its parts, which must be other bits: a comparison that sees nothing is seen.
 #![tactic(auto)]
 
+ghost use Rattle.std.specs.Prelude.{◌<◌, length};
+
 mod echo;
 mod spoilt;
 
@@ -38,32 +40,41 @@ fn compare(rt: &impl Print, name: &str, ended: &Ended, first: &Ended) -> io::Res
     println!(rt; "{name}: {bits} bits")
 }
 
-// What each way leaves is gone before the next begins: all of them at once, in a list, take more stack than
-// some threads have.
+// Compares what an order leaves. That is gone when the function returns, and so is what is spoilt below: all
+// of it at once in `main` takes more stack than a thread may have.
+fn compare_order(rt: &impl Print, name: &str, order: &[usize], first: &Ended) -> io::Result<()>
+    requires { 0 < length order.now }
+{
+    compare(rt, name, &echo(order), first)
+}
+
+fn compare_spoilt<S: Fn(Ended) -> Ended + Drop>(
+    rt: &impl Print,
+    name: &str,
+    spoil: S,
+    first: &Ended,
+) -> io::Result<()>
+    requires { S.IsAlwaysCallable spoil }
+{
+    compare(rt, name, &spoil(*first), first)
+}
+
+fn by_frame_whole() -> Ended {
+    echo(&by_frame::<WHOLE>())
+}
+
 fn main(rt: HostRuntime) -> io::Result<()> {
-    let first = &echo(&by_frame::<WHOLE>());
+    let first = &by_frame_whole();
     say_bits(&rt, "frame 150, left", first.samples[300])?;
     say_bits(&rt, "frame 4095, right", first.samples[8191])?;
-    compare(
-        &rt,
-        "one block, stage after stage",
-        &echo(&by_stage::<WHOLE>()),
-        first,
-    )?;
-    compare(
-        &rt,
-        "64 blocks, frame after frame",
-        &echo(&by_frame::<PART>()),
-        first,
-    )?;
-    compare(
-        &rt,
-        "64 blocks, stage after stage",
-        &echo(&by_stage::<PART>()),
-        first,
-    )?;
-    compare(&rt, "a spoilt sample", &spoilt::sample(*first), first)?;
-    compare(&rt, "a spoilt line", &spoilt::line(*first), first)?;
-    compare(&rt, "a spoilt float", &spoilt::float(*first), first)?;
-    compare(&rt, "a spoilt position", &spoilt::position(*first), first)
+    let by_stage_whole = by_stage::<WHOLE>();
+    compare_order(&rt, "one block, stage after stage", &by_stage_whole, first)?;
+    let by_frame_part = by_frame::<PART>();
+    compare_order(&rt, "64 blocks, frame after frame", &by_frame_part, first)?;
+    let by_stage_part = by_stage::<PART>();
+    compare_order(&rt, "64 blocks, stage after stage", &by_stage_part, first)?;
+    compare_spoilt(&rt, "a spoilt sample", spoilt::sample, first)?;
+    compare_spoilt(&rt, "a spoilt line", spoilt::line, first)?;
+    compare_spoilt(&rt, "a spoilt float", spoilt::float, first)?;
+    compare_spoilt(&rt, "a spoilt position", spoilt::position, first)
 }

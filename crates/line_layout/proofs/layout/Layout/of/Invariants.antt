@@ -3,7 +3,7 @@ use Rattle.std.proofs.Common.{◌≡◌, ℕ, ◌+◌, ◌*◌, ◌≤◌, ◌<�
 use Rattle.reverb_tuning.specs.Tuning.{line_count}
 use Rattle.memories.specs.Sizes.{places}
 use Rattle.line_layout.specs.Layout.{start_of}
-use Rattle.line_layout.proofs.layout.starts_of.Given as goal
+use Rattle.line_layout.proofs.layout.Layout.of.Given as goal
 
 abbrev pub invariant-loop-i : goal.invariant-loop-i
 invariant-loop-i l = record {
