@@ -98,15 +98,16 @@ fn block(
     rt: &(impl Input + Print + Eprint),
     setup: Setup,
     memories: Memories,
-    remaining: usize,
+    remaining: &mut usize,
     bytes: &mut [u8; BLOCK_BYTES],
     samples: &mut [f32; BLOCK_SAMPLES],
     store: &mut [f32],
 ) -> Result<Memories, Stop>
-    requires { 0 < remaining }
+    requires { 0 < remaining.old }
+    ensures { remaining.new < remaining.old }
 {
-    let want = block_bytes(remaining);
-    prove!(0 < want && want <= remaining);
+    let want = block_bytes(*remaining);
+    *remaining -= want;
     let got = read_block(rt, bytes, want);
     let frames = frames_in(&bytes[..got], samples);
     let outcome = render(
@@ -135,12 +136,13 @@ fn blocks(
     let mut bytes = [0; BLOCK_BYTES];
     let mut samples = [0.0; BLOCK_SAMPLES];
     let mut held = memories;
-    for done in (0..size).step_by(BLOCK_BYTES) {
+    let mut remaining = size;
+    while remaining > 0 {
         held = block(
             rt,
             setup,
             held,
-            size - done,
+            &mut remaining,
             &mut bytes,
             &mut samples,
             store,
