@@ -5,7 +5,6 @@ use chain::run::run;
 use memories::{Memories, PLACES, zero};
 use stage::kind::Stage;
 use stage::setup::Setup;
-use std::array;
 
 // What one way of running the echo leaves.
 #[derive(Clone, Copy)]
@@ -35,19 +34,30 @@ fn noise(i: usize) -> f32 {
 
 // An order of so many entries that names both stages in turn.
 pub(crate) fn by_frame<const ENTRIES: usize>() -> [usize; ENTRIES] {
-    array::from_fn(|i| i % 2)
+    let mut order = [0; ENTRIES];
+    for (i, entry) in order.iter_mut().enumerate() {
+        *entry = i % 2;
+    }
+    order
 }
 
 // An order of so many entries that names stage 0 in its first half, and then stage 1.
 pub(crate) fn by_stage<const ENTRIES: usize>() -> [usize; ENTRIES] {
-    array::from_fn(|i| if i < ENTRIES / 2 { 0 } else { 1 })
+    let mut order = [0; ENTRIES];
+    for (i, entry) in order.iter_mut().enumerate() {
+        *entry = if i < ENTRIES / 2 { 0 } else { 1 };
+    }
+    order
 }
 
 // Runs the echo in blocks. A block has as many samples as the order has entries, since both count 2 a frame.
 pub(crate) fn echo(order: &[usize]) -> Ended
     requires { 0 < length order.now }
 {
-    let mut samples = array::from_fn(noise);
+    let mut samples = [0.0; 8192];
+    for (i, sample) in samples.iter_mut().enumerate() {
+        *sample = noise(i);
+    }
     let mut store = [0.0; 200];
     let mut memories = zero();
     for block in samples.chunks_exact_mut(order.len()) {

@@ -4,7 +4,7 @@
 // one place of each of its parts, which must be other bits: a comparison that sees nothing is seen.
 #![tactic(auto)]
 
-ghost use Rattle.std.specs.Prelude.{◌<◌, length};
+ghost use Rattle.std.specs.Prelude.{◌≤◌, ◌<◌};
 
 mod echo;
 mod spoilt;
@@ -40,12 +40,28 @@ fn compare(rt: &impl Print, name: &str, ended: &Ended, first: &Ended) -> io::Res
     println!(rt; "{name}: {bits} bits")
 }
 
-// Compares what an order leaves. That is gone when the function returns, and so is what is spoilt below: all
-// of it at once in `main` takes more stack than a thread may have.
-fn compare_order(rt: &impl Print, name: &str, order: &[usize], first: &Ended) -> io::Result<()>
-    requires { 0 < length order.now }
+// Compares what the echo leaves in blocks of so many entries. What a way leaves is gone when its function
+// returns: all of it at once in `main` takes more stack than a thread may have.
+#[inline(never)]
+fn compare_by_stage<const ENTRIES: usize>(
+    rt: &impl Print,
+    name: &str,
+    first: &Ended,
+) -> io::Result<()>
+    requires { (0 < ENTRIES) × (ENTRIES ≤ 8192) }
 {
-    compare(rt, name, &echo(order), first)
+    compare(rt, name, &echo(&by_stage::<ENTRIES>()), first)
+}
+
+#[inline(never)]
+fn compare_by_frame<const ENTRIES: usize>(
+    rt: &impl Print,
+    name: &str,
+    first: &Ended,
+) -> io::Result<()>
+    requires { (0 < ENTRIES) × (ENTRIES ≤ 8192) }
+{
+    compare(rt, name, &echo(&by_frame::<ENTRIES>()), first)
 }
 
 fn compare_spoilt<S: Fn(Ended) -> Ended + Drop>(
@@ -59,6 +75,7 @@ fn compare_spoilt<S: Fn(Ended) -> Ended + Drop>(
     compare(rt, name, &spoil(*first), first)
 }
 
+#[inline(never)]
 fn by_frame_whole() -> Ended {
     echo(&by_frame::<WHOLE>())
 }
@@ -67,12 +84,9 @@ fn main(rt: HostRuntime) -> io::Result<()> {
     let first = &by_frame_whole();
     say_bits(&rt, "frame 150, left", first.samples[300])?;
     say_bits(&rt, "frame 4095, right", first.samples[8191])?;
-    let by_stage_whole = by_stage::<WHOLE>();
-    compare_order(&rt, "one block, stage after stage", &by_stage_whole, first)?;
-    let by_frame_part = by_frame::<PART>();
-    compare_order(&rt, "64 blocks, frame after frame", &by_frame_part, first)?;
-    let by_stage_part = by_stage::<PART>();
-    compare_order(&rt, "64 blocks, stage after stage", &by_stage_part, first)?;
+    compare_by_stage::<WHOLE>(&rt, "one block, stage after stage", first)?;
+    compare_by_frame::<PART>(&rt, "64 blocks, frame after frame", first)?;
+    compare_by_stage::<PART>(&rt, "64 blocks, stage after stage", first)?;
     compare_spoilt(&rt, "a spoilt sample", spoilt::sample, first)?;
     compare_spoilt(&rt, "a spoilt line", spoilt::line, first)?;
     compare_spoilt(&rt, "a spoilt float", spoilt::float, first)?;
